@@ -45,7 +45,7 @@ pub pages_positive : (room : Room) → IsRoom room → 0 < shadow_pages room
 pages_positive (Small class) r = omega arith
 pages_positive (Pages pages) r = r
 
-offset_below : (room : Room) (slot : ℕ) → IsRoom room → offset_in room slot < 4096
+pub offset_below : (room : Room) (slot : ℕ) → IsRoom room → offset_in room slot < 4096
 offset_below (Small class) slot r = let h = bytes_within (Small class) slot r in let p = size_positive class r in omega arith
 offset_below (Pages pages) slot r = omega arith
 
