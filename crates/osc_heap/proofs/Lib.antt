@@ -2,3 +2,4 @@ pub mod Rows
 pub mod Changes
 pub mod Scans
 pub mod Decode
+pub mod Giving

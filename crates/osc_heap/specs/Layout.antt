@@ -1,5 +1,5 @@
 -- How truth values, one for each slot of each area, stand for the held blocks of a heap. This project's own.
-use Rattle.std.specs.Prelude.{ℕ, ◌+◌, ◌-◌, ◌*◌, ◌/◌, ◌≡◌, ◌≤◌, nat_lt, Bool, true, false, not, ◌&&◌, if◌then◌else◌, Option, None, List, [], ◌∷◌, length, slice_index_or}
+use Rattle.std.specs.Prelude.{ℕ, ◌+◌, ◌-◌, ◌*◌, ◌/◌, ◌≡◌, ◌≤◌, nat_le, nat_lt, Bool, true, false, not, ◌&&◌, if◌then◌else◌, Option, Some, None, List, [], ◌∷◌, length, slice_get, slice_set, slice_index_or}
 use Rattle.osc_class.specs.declared.Room.{Room}
 use Rattle.osc_class.specs.declared.Room.TheVariants.{Small, Pages}
 use Rattle.osc_slot.specs.declared.Block.{Block}
@@ -57,6 +57,18 @@ AreSized frames area (row ∷ rows) = (length row ≡ slots_in frames (room_at a
 
 abbrev pub heap_of : ℕ → List (List Bool) → List HeapPage → Heap
 heap_of frames rows pages = record { frames = frames; held = blocks_from frames 0 rows; pages = pages }
+
+-- one of so many pages from one on
+abbrev pub in_range : ℕ → ℕ → HeapPage → Bool
+in_range first count p = nat_le first p.page && nat_lt p.page (first + count)
+
+abbrev pub out_of_range : ℕ → ℕ → HeapPage → Bool
+out_of_range first count p = not (in_range first count p)
+
+-- each page's frame is taken when those of the pages before it are free
+unfoldable pub CanGiveBack : List Bool → List HeapPage → Type 0
+CanGiveBack free [] = Unit {0}
+CanGiveBack free (p ∷ pages) = (slice_get free p.frame ≡ Some false) × CanGiveBack (slice_set free p.frame true) pages
 
 -- what is true of the parts of a heap
 pub record AreParts (frames : ℕ) (rows : List (List Bool)) (pages : List HeapPage) (room : ℕ) : Type 0 where

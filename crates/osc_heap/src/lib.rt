@@ -2,6 +2,7 @@
 #![tactic(auto)]
 
 mod area;
+mod pages;
 mod slots;
 
 pub use osc_slot::Block;

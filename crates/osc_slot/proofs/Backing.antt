@@ -60,7 +60,7 @@ unfolding AreTaken
 taken-take free frame [] t = tt
 taken-take free frame (p ∷ pages) t = ((let e = get-set free frame p.frame false in let h = t.0 in grind (arith, nat_tests, e, h)), taken-take free frame pages t.1)
 
-taken-give : (free : List Bool) (frame : ℕ) (pages : List HeapPage) → has_frame frame pages ≡ false → AreTaken free pages → AreTaken (slice_set free frame true) pages
+pub taken-give : (free : List Bool) (frame : ℕ) (pages : List HeapPage) → has_frame frame pages ≡ false → AreTaken free pages → AreTaken (slice_set free frame true) pages
 unfolding AreTaken
 taken-give free frame [] n t = tt
 taken-give free frame (p ∷ pages) n t = ((let e = get-set free frame p.frame true in let h = t.0 in grind (arith, nat_tests, e, h)), taken-give free frame pages (grind (arith, nat_tests)) t.1)

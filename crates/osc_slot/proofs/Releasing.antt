@@ -67,7 +67,7 @@ never f (x ∷ xs) = let later = never f xs in grind (arith, nat_tests, later)
 left_out : (b : Block) (held : List Block) → is_held (without_block b held) b ≡ false
 left_out b held = any-filter (λ (c : Block). c.start) (λ c. is_block b c) (λ c. not (is_block b c)) held ∙ never (λ c. is_block b c) held
 
-taken-filter : (free : List Bool) (test : HeapPage → Bool) (pages : List HeapPage) → AreTaken free pages → AreTaken free (filter test pages)
+pub taken-filter : (free : List Bool) (test : HeapPage → Bool) (pages : List HeapPage) → AreTaken free pages → AreTaken free (filter test pages)
 unfolding AreTaken
 taken-filter free test [] t = tt
 taken-filter free test (p ∷ pages) t = go (test p) (taken-filter free test pages t.1)
