@@ -3,3 +3,4 @@ pub mod Changes
 pub mod Scans
 pub mod Decode
 pub mod Giving
+pub mod Parts

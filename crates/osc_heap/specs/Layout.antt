@@ -1,5 +1,6 @@
 -- How truth values, one for each slot of each area, stand for the held blocks of a heap. This project's own.
 use Rattle.std.specs.Prelude.{ℕ, ◌+◌, ◌-◌, ◌*◌, ◌/◌, ◌≡◌, ◌≤◌, nat_le, nat_lt, Bool, true, false, not, ◌&&◌, if◌then◌else◌, Option, Some, None, List, [], ◌∷◌, length, slice_get, slice_set, slice_index_or}
+use Rattle.std.specs.List.{list_any, list_all}
 use Rattle.osc_class.specs.declared.Room.{Room}
 use Rattle.osc_class.specs.declared.Room.TheVariants.{Small, Pages}
 use Rattle.osc_slot.specs.declared.Block.{Block}
@@ -54,6 +55,10 @@ blocks_from frames area (row ∷ rows) = blocks_of_row frames (room_at area) 0 r
 unfoldable pub AreSized : ℕ → ℕ → List (List Bool) → Type 0
 AreSized frames area [] = Unit {0}
 AreSized frames area (row ∷ rows) = (length row ≡ slots_in frames (room_at area)) × AreSized frames (area + 1) rows
+
+-- no slot of these areas is held
+abbrev pub all_free : List (List Bool) → Bool
+all_free rows = list_all (λ row. not (list_any (λ held. held) row)) rows
 
 abbrev pub heap_of : ℕ → List (List Bool) → List HeapPage → Heap
 heap_of frames rows pages = record { frames = frames; held = blocks_from frames 0 rows; pages = pages }

@@ -10,7 +10,7 @@ use Rattle.osc_class.specs.declared.Room.TheVariants.{Small, Pages}
 use Rattle.osc_slot.specs.declared.Block.{Block}
 use Rattle.osc_slot.specs.Least.{least, any, passing}
 use Rattle.osc_slot.specs.Areas.{first_page, area_of, slots_of, slots_in, page_in, page_of, start_of, block_at_slot, IsPlaced, LieApart}
-use Rattle.osc_slot.specs.Slots.{is_room, is_block, is_held, holds_in, has_block, is_on, is_covered, is_small, own_frames, block_frames}
+use Rattle.osc_slot.specs.Slots.{is_room, is_block, is_held, holds_in, has_block, is_on, is_covered, is_small, own_frames, pages_alone, block_frames}
 use Rattle.osc_slot.specs.Heap.{with_block, ArePlaced}
 use Rattle.osc_slot.proofs.Counting.{passing_same, passing_more}
 use Rattle.osc_slot.proofs.InOrder.{any-insert, sum-insert, has_number}
@@ -19,8 +19,7 @@ use Rattle.osc_slot.proofs.HeldBlocks.{same_block, is_block_self, any_weaker, Fo
 
 -- the pages that a block at a slot covers beside those of the held blocks
 abbrev pub new_pages : ℕ → List Block → Room → ℕ → ℕ
-new_pages frames held (Small class) slot = cond (has_block (holds_in frames held) class (slot / slots_of class)) 0 1
-new_pages frames held (Pages pages) slot = pages
+new_pages frames held room slot = pages_alone (holds_in frames held) room slot
 
 pub record Fresh (frames : ℕ) (held : List Block) (room : Room) (slot n : ℕ) : Type 0 where
   pub pages : (q : ℕ) → ((nat_le (page_of frames room slot) q && nat_lt q (page_of frames room slot + n)) || is_covered held q) ≡ (is_on q (block_at_slot frames room slot) || is_covered held q)

@@ -81,7 +81,9 @@ pub record Last (heap : Heap) (block : Block) : Type 0 where
   pub slot : ℕ
   pub room : IsRoom block.room
   pub is : block ≡ block_at_slot heap.frames block.room slot
+  pub within : slot < slots_in heap.frames block.room
   pub n : ℕ
+  pub n_is : n ≡ new_pages heap.frames (without_block block heap.held) block.room slot
   pub fresh : Fresh heap.frames (without_block block heap.held) block.room slot n
   pub whole : with_block block (without_block block heap.held) ≡ heap.held
 
@@ -99,7 +101,9 @@ last heap block h e = go (found heap.frames (λ b. is_block block b) heap.held h
           slot = p.slot;
           room = p.room;
           is = is;
+          within = p.within;
           n = new_pages heap.frames (without_block block heap.held) block.room p.slot;
+          n_is = refl;
           fresh = fresh heap.frames (without_block block heap.held) block.room p.slot p.room p.within (placed-filter heap.frames (λ c. not (is_block block c)) heap.held h.placed) free;
           whole = put_back block heap.held h.ordered e;
         }
@@ -112,7 +116,7 @@ covered_by : (heap : Heap) (block : Block) (x : Last heap block) (q : ℕ) → i
 covered_by heap block x q = ap (λ held. is_covered held q) (sym x.whole) ∙ any-insert (λ (b : Block). b.start) (λ b. is_on q b) block (without_block block heap.held)
 
 -- the pages that hold no block any more are the block's own
-emptied : (heap : Heap) (block : Block) (x : Last heap block) (q : ℕ) → is_covered heap.held q ≡ true
+pub emptied : (heap : Heap) (block : Block) (x : Last heap block) (q : ℕ) → is_covered heap.held q ≡ true
     → not (is_covered (without_block block heap.held) q) ≡ (nat_le (page_of heap.frames block.room x.slot) q && nat_lt q (page_of heap.frames block.room x.slot + x.n))
 emptied heap block x q e =
     let by : ((nat_le (page_of heap.frames block.room x.slot) q && nat_lt q (page_of heap.frames block.room x.slot + x.n)) || is_covered (without_block block heap.held) q) ≡ true =

@@ -57,6 +57,11 @@ abbrev pub need_over : ℕ → Holds → Room → ℕ
 need_over frames holds (Small class) = if is_some (beside frames holds class) then 0 else 1
 need_over frames holds (Pages pages) = pages
 
+-- the pages that a block at a slot has and no held block has
+abbrev pub pages_alone : Holds → Room → ℕ → ℕ
+pages_alone holds (Small class) slot = if has_block holds class (slot / slots_of class) then 0 else 1
+pages_alone holds (Pages pages) slot = pages
+
 abbrev pub start_of_slot : ℕ → Room → Option ℕ → Option ℕ
 start_of_slot frames room None = None
 start_of_slot frames room (Some slot) = Some (start_of frames room slot)
