@@ -85,7 +85,10 @@ page_fits page pages slots l =
     let e = suc-mul page slots in
     omega arith
 
-pub ruleset scans = (any_more, any_end, least_more, least_end, beside_more, beside_end, beside_all, page_fits)
+pub slot_fits : (page pages slots : ℕ) → page < pages → page * slots ≤ pages * slots
+slot_fits page pages slots l = mul-le-mul_right slots (let n : page ≤ pages = omega arith in n)
+
+pub ruleset scans = (any_more, any_end, least_more, least_end, beside_more, beside_end, beside_all, page_fits, slot_fits)
 
 -- one more page of a list
 pub frame_of-drop : (pages : List HeapPage) (i page : ℕ) (d : HeapPage) → i < length pages → frame_of (drop i pages) page ≡ cond ((get_or pages i d).page == page) (Some (get_or pages i d).frame) (frame_of (drop (i + 1) pages) page)

@@ -1,7 +1,8 @@
 //! The slots of one area, each held or free.
 
-ghost use Rattle.std.specs.Prelude.{◌≡◌, ◌+◌, ◌*◌, ◌<◌, ◌≤◌, Bool, false, not, length, replicate, slice_set, IfOk};
+ghost use Rattle.std.specs.Prelude.{◌≡◌, ◌+◌, ◌*◌, ◌^◌, ◌<◌, ◌≤◌, Bool, false, not, length, replicate, slice_set, IfOk, IfSome};
 ghost use Rattle.osc_slot.specs.Least.{least, any};
+ghost use Rattle.osc_slot.specs.Slots.{first_slot};
 ghost use Rattle.osc_heap.specs.Layout.{bit_at, page_held, page_beside, row_beside, row_empty_page};
 
 use std::alloc::{AllocError, Global};
@@ -80,11 +81,25 @@ impl Area {
         None
     }
 
-    /// The least page that holds no block.
+    /// The first slot of the least page that holds no block.
+    #[tactic(auto, using(crate::proofs::Scans::scans))]
+    pub fn first_of_empty(&self, pages: usize, slots: usize) -> Option<usize>
+        requires whole { length self.now ≡ pages * slots }
+        requires fits { pages * slots < 2 ^ 32 }
+        ensures { result ≡ first_slot slots (row_empty_page pages slots self.now) }
+    {
+        match self.empty_page(pages, slots) {
+            Some(page) => Some(page * slots),
+            None => None,
+        }
+    }
+
+    // The least page that holds no block.
     #[tactic(auto, using(crate::proofs::Scans::scans), unfolding(crate::specs::Layout::row_empty_page))]
-    pub fn empty_page(&self, pages: usize, slots: usize) -> Option<usize>
+    fn empty_page(&self, pages: usize, slots: usize) -> Option<usize>
         requires { length self.now ≡ pages * slots }
-        ensures { result ≡ row_empty_page pages slots self.now }
+        ensures page { result ≡ row_empty_page pages slots self.now }
+        ensures bound { IfSome result (λ page. page < pages) }
     {
         for page in 0..pages {
             if !self.has_block(page, slots) {

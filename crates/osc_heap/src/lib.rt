@@ -2,6 +2,7 @@
 #![tactic(auto)]
 
 mod area;
+mod areas;
 mod pages;
 mod slots;
 

@@ -1,0 +1,105 @@
+//! The areas of a heap: which slot the next block takes, and what it needs.
+
+ghost use Rattle.std.specs.Prelude.{◌≡◌, ◌+◌, ◌<◌, ◌≤◌, length};
+ghost use Rattle.osc_class.specs.declared.Room.TheVariants.{Small};
+ghost use Rattle.osc_class.specs.Rooms.{IsRoom};
+ghost use Rattle.osc_slot.specs.Areas.{area_of, slots_of, slots_in};
+ghost use Rattle.osc_slot.specs.Slots.{slot, beside, empty_page, first_slot, has_block, need_over, pages_alone};
+ghost use Rattle.osc_heap.specs.Layout.{AreSized, row_of, bits};
+
+use crate::area::Area;
+use crate::slots::{area_of, slots_of};
+use osc_class::Room;
+
+// The area of a room.
+fn area_for(areas: &[Area], frames: u32, room: Room) -> &Area
+    requires most { frames ≤ 4096 }
+    requires areas { (length areas.now ≡ 13 + frames) × AreSized frames 0 areas.now }
+    requires is_room { IsRoom room × (area_of room < length areas.now) }
+    ensures row { result.now ≡ row_of areas.now room }
+    ensures size { length result.now ≡ slots_in frames room }
+{
+    &areas[area_of(room)]
+}
+
+// The least free slot on a page of a class that holds a block.
+fn beside(areas: &[Area], frames: u32, class: u8) -> Option<usize>
+    requires most { frames ≤ 4096 }
+    requires areas { (length areas.now ≡ 13 + frames) × AreSized frames 0 areas.now }
+    requires is_class { class < 13 }
+    ensures { result ≡ beside frames (bits areas.now) class }
+{
+    area_for(areas, frames, Room::Small(class)).beside(frames as usize, slots_of(class))
+}
+
+// The first slot of the least page of a class that holds no block.
+fn first_of_empty(areas: &[Area], frames: u32, class: u8) -> Option<usize>
+    requires most { frames ≤ 4096 }
+    requires areas { (length areas.now ≡ 13 + frames) × AreSized frames 0 areas.now }
+    requires is_class { class < 13 }
+    ensures { result ≡ first_slot (slots_of class) (empty_page frames (bits areas.now) class) }
+{
+    area_for(areas, frames, Room::Small(class)).first_of_empty(frames as usize, slots_of(class))
+}
+
+// Whether a page of a class holds a block.
+fn has_block(areas: &[Area], frames: u32, class: u8, page: usize) -> bool
+    requires most { frames ≤ 4096 }
+    requires areas { (length areas.now ≡ 13 + frames) × AreSized frames 0 areas.now }
+    requires is_class { (class < 13) × (page < frames) }
+    ensures { result ≡ has_block (bits areas.now) class page }
+{
+    area_for(areas, frames, Room::Small(class)).has_block(page, slots_of(class))
+}
+
+/// The slot of the next block of a room.
+pub fn least_slot(areas: &[Area], frames: u32, room: Room) -> Option<usize>
+    requires most { frames ≤ 4096 }
+    requires areas { (length areas.now ≡ 13 + frames) × AreSized frames 0 areas.now }
+    requires is_room { IsRoom room × (area_of room < length areas.now) }
+    ensures { result ≡ slot frames (bits areas.now) room }
+{
+    match room {
+        Room::Small(class) => match beside(areas, frames, class) {
+            Some(slot) => Some(slot),
+            None => first_of_empty(areas, frames, class),
+        },
+        Room::Pages(_) => area_for(areas, frames, room).least_free(),
+    }
+}
+
+/// The frames that the next block of a room newly takes.
+pub fn need_over(areas: &[Area], frames: u32, room: Room) -> u64
+    requires most { frames ≤ 4096 }
+    requires areas { (length areas.now ≡ 13 + frames) × AreSized frames 0 areas.now }
+    requires is_room { IsRoom room }
+    ensures { result ≡ need_over frames (bits areas.now) room }
+{
+    match room {
+        Room::Small(class) => match beside(areas, frames, class) {
+            Some(_) => 0,
+            None => 1,
+        },
+        Room::Pages(pages) => pages,
+    }
+}
+
+/// The pages that a block at a slot has and no held block has.
+pub fn pages_alone(areas: &[Area], frames: u32, room: Room, slot: usize) -> u64
+    requires most { frames ≤ 4096 }
+    requires areas { (length areas.now ≡ 13 + frames) × AreSized frames 0 areas.now }
+    requires is_room { IsRoom room }
+    requires within { slot < slots_in frames room }
+    ensures { result ≡ pages_alone (bits areas.now) room slot }
+{
+    match room {
+        Room::Small(class) => {
+            if has_block(areas, frames, class, slot / slots_of(class)) {
+                0
+            } else {
+                1
+            }
+        }
+        Room::Pages(pages) => pages,
+    }
+}
