@@ -24,6 +24,10 @@ row_of rows room = slice_index_or rows (area_of room) []
 abbrev pub bits : List (List Bool) → Holds
 bits rows room slot = bit_at (row_of rows room) slot
 
+-- the rows with another truth value at a slot
+abbrev pub with_bit : List (List Bool) → Room → ℕ → Bool → List (List Bool)
+with_bit rows room slot held = slice_set rows (area_of room) (slice_set (row_of rows room) slot held)
+
 -- whether a page of a class's area holds a block, where a page has so many slots
 abbrev pub page_held : ℕ → List Bool → ℕ → Bool
 page_held slots row page = any (λ slot. bit_at row slot) (page * slots) slots

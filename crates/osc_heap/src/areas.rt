@@ -5,7 +5,7 @@ ghost use Rattle.osc_class.specs.declared.Room.TheVariants.{Small};
 ghost use Rattle.osc_class.specs.Rooms.{IsRoom};
 ghost use Rattle.osc_slot.specs.Areas.{area_of, slots_of, slots_in};
 ghost use Rattle.osc_slot.specs.Slots.{slot, beside, empty_page, first_slot, has_block, need_over, pages_alone};
-ghost use Rattle.osc_heap.specs.Layout.{AreSized, row_of, bits};
+ghost use Rattle.osc_heap.specs.Layout.{AreSized, row_of, bits, with_bit};
 
 use crate::area::Area;
 use crate::slots::{area_of, slots_of};
@@ -102,4 +102,13 @@ pub fn pages_alone(areas: &[Area], frames: u32, room: Room, slot: usize) -> u64
         }
         Room::Pages(pages) => pages,
     }
+}
+
+/// Sets whether a slot of a room's area is held.
+pub fn set_slot(areas: &mut Vec<Area>, room: Room, slot: usize, held: bool)
+    requires area { (area_of room ≤ 4108) × (area_of room < length areas.old.items) }
+    requires within { slot < length (row_of areas.old.items room) }
+    ensures { areas.new.items ≡ with_bit areas.old.items room slot held }
+{
+    areas[area_of(room)].set(slot, held);
 }
