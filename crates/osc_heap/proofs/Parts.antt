@@ -436,3 +436,7 @@ to_release frames rows pages capacity heap block free e p f h = record { is = e;
 
 pub need_here : (frames : ℕ) (rows : List (List Bool)) (pages : List HeapPage) (heap : Heap) (room : Room) → heap_of frames rows pages ≡ heap → IsRoom room → need_over frames (bits rows) room ≡ need heap.frames heap.held room
 need_here frames rows pages heap room e r = need_is frames rows room r ∙ ap (λ (h : Heap). need h.frames h.held room) e
+
+pub alone_le : (holds : Holds) (room : Room) (i : ℕ) → pages_alone holds room i ≤ shadow_pages room
+alone_le holds (Small class) i = grind arith
+alone_le holds (Pages pages) i = omega arith
