@@ -4,3 +4,4 @@ pub mod Scans
 pub mod Decode
 pub mod Giving
 pub mod Parts
+pub mod UserBlocks

@@ -112,3 +112,11 @@ pub fn set_slot(areas: &mut Vec<Area>, room: Room, slot: usize, held: bool)
 {
     areas[area_of(room)].set(slot, held);
 }
+
+/// Whether a slot of a room's area is held.
+pub fn is_held(areas: &[Area], room: Room, slot: usize) -> bool
+    requires { (area_of room ≤ 4108) × (area_of room < length areas.now) }
+    ensures { result ≡ bits areas.now room slot }
+{
+    areas[area_of(room)].is_held(slot)
+}

@@ -23,6 +23,9 @@ use osc_slot::HeapPage;
 use std::alloc::{AllocError, Global};
 use std::marker::Model;
 
+/// The bytes of a block's header, after which its user address stands.
+const HEADER: u64 = 16;
+
 /// The canonical heap of one process, in a machine of some frames.
 #[derive(Drop)]
 pub struct CanonHeap {
@@ -61,6 +64,25 @@ impl CanonHeap {
         ensures valid { IsHeap self.now }
     {
         pages::frame_of(&self.pages, page)
+    }
+
+    /// The held block with this user address, which is 16 past its start; None exactly where there is
+    /// none.
+    pub fn block_at(&self, user: u64) -> Option<Block>
+        ensures block { result ≡ block_of_user self.now.held user }
+        ensures valid { IsHeap self.now }
+    {
+        let _frames = self.frames;
+        if user < HEADER {
+            return None;
+        }
+        let start = user - HEADER;
+        let (room, slot) = slots::slot_at(self.frames, start)?;
+        if areas::is_held(&self.areas, room, slot) {
+            Some(Block { start, room })
+        } else {
+            None
+        }
     }
 
     /// Places the next block of a room: at the least free slot on a page of its class that holds a

@@ -32,7 +32,7 @@ pub placed_is : (frames : ℕ) (b : Block) (p : IsPlaced frames b) → b ≡ blo
 placed_is frames b p = λ i. record { start = p.start i; room = b.room }
 
 -- no held block starts where one that is not held does
-absent_start : (frames : ℕ) (held : List Block) (room : Room) (slot : ℕ) → IsRoom room → slot < slots_in frames room → ArePlaced frames held → holds_in frames held room slot ≡ false → has_number (λ (b : Block). b.start) (start_of frames room slot) held ≡ false
+pub absent_start : (frames : ℕ) (held : List Block) (room : Room) (slot : ℕ) → IsRoom room → slot < slots_in frames room → ArePlaced frames held → holds_in frames held room slot ≡ false → has_number (λ (b : Block). b.start) (start_of frames room slot) held ≡ false
 absent_start frames held room slot r l placed free = go (has_number (λ (b : Block). b.start) (start_of frames room slot) held) refl
   where
     clash : Found frames (λ b. b.start == start_of frames room slot) held → ⊥

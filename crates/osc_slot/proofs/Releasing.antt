@@ -15,7 +15,7 @@ use Rattle.osc_slot.proofs.Backing.{length-give_back, free_count-give_back, take
 use Rattle.osc_slot.proofs.Fresh.{new_pages, Fresh, fresh, placed_is}
 
 -- a held block starts above what all of them do
-above_member : (n : ℕ) (b : Block) (held : List Block) → AllAbove (λ (c : Block). c.start) n held → is_held held b ≡ true → n < b.start
+pub above_member : (n : ℕ) (b : Block) (held : List Block) → AllAbove (λ (c : Block). c.start) n held → is_held held b ≡ true → n < b.start
 unfolding AllAbove
 above_member n b [] a e = cc
 above_member n b (c ∷ held) a e = go (is_block b c) refl (above_member n b held a.1) e
