@@ -5,3 +5,4 @@ pub mod Decode
 pub mod Giving
 pub mod Parts
 pub mod UserBlocks
+pub mod Whole

@@ -1,5 +1,5 @@
 -- How truth values, one for each slot of each area, stand for the held blocks of a heap. This project's own.
-use Rattle.std.specs.Prelude.{ℕ, ◌+◌, ◌-◌, ◌*◌, ◌/◌, ◌≡◌, ◌≤◌, nat_le, nat_lt, Bool, true, false, not, ◌&&◌, if◌then◌else◌, Option, Some, None, List, [], ◌∷◌, length, slice_get, slice_set, slice_index_or}
+use Rattle.std.specs.Prelude.{ℕ, ◌+◌, ◌-◌, ◌*◌, ◌/◌, ◌≡◌, ◌≤◌, nat_le, nat_lt, Bool, true, false, not, ◌&&◌, if◌then◌else◌, Option, Some, None, List, [], ◌∷◌, length, replicate, slice_get, slice_set, slice_index_or}
 use Rattle.std.specs.List.{list_any, list_all}
 use Rattle.osc_class.specs.declared.Room.{Room}
 use Rattle.osc_class.specs.declared.Room.TheVariants.{Small, Pages}
@@ -63,6 +63,15 @@ AreSized frames area (row ∷ rows) = (length row ≡ slots_in frames (room_at a
 -- no slot of these areas is held
 abbrev pub all_free : List (List Bool) → Bool
 all_free rows = list_all (λ row. not (list_any (λ held. held) row)) rows
+
+abbrev pub free_row : List Bool → List Bool
+free_row row = replicate (length row) false
+
+-- the areas of a heap that holds no block
+pub record AreFree (frames : ℕ) (rows : List (List Bool)) : Type 0 where
+  pub areas : length rows ≡ 13 + frames
+  pub sized : AreSized frames 0 rows
+  pub free : all_free rows ≡ true
 
 abbrev pub heap_of : ℕ → List (List Bool) → List HeapPage → Heap
 heap_of frames rows pages = record { frames = frames; held = blocks_from frames 0 rows; pages = pages }

@@ -3,7 +3,7 @@
 ghost use Rattle.std.specs.Prelude.{◌≡◌, ◌+◌, ◌*◌, ◌^◌, ◌<◌, ◌≤◌, Bool, false, not, length, replicate, slice_set, IfOk, IfSome};
 ghost use Rattle.osc_slot.specs.Least.{least, any};
 ghost use Rattle.osc_slot.specs.Slots.{first_slot};
-ghost use Rattle.osc_heap.specs.Layout.{bit_at, page_held, page_beside, row_beside, row_empty_page};
+ghost use Rattle.osc_heap.specs.Layout.{bit_at, free_row, page_held, page_beside, row_beside, row_empty_page};
 
 use std::alloc::{AllocError, Global};
 use std::marker::Model;
@@ -43,6 +43,21 @@ impl Area {
         ensures { self.new ≡ slice_set self.old slot held }
     {
         self.held[slot] = held;
+    }
+
+    /// Frees each slot.
+    pub fn clear(&mut self)
+        ensures { self.new ≡ free_row self.old }
+    {
+        self.held.fill(false);
+    }
+
+    /// Holds the slots that another area of this size holds.
+    pub fn copy_from(&mut self, other: &Area)
+        requires { length self.old ≡ length other.now }
+        ensures { self.new ≡ other.now }
+    {
+        self.held.copy_from_slice(&other.held);
     }
 
     /// Whether a page holds a block, where a page has so many slots.

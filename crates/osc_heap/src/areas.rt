@@ -1,15 +1,29 @@
 //! The areas of a heap: which slot the next block takes, and what it needs.
 
-ghost use Rattle.std.specs.Prelude.{◌≡◌, ◌+◌, ◌<◌, ◌≤◌, length};
+ghost use Rattle.std.specs.Prelude.{◌≡◌, ◌+◌, ◌<◌, ◌≤◌, length, map, IfOk};
 ghost use Rattle.osc_class.specs.declared.Room.TheVariants.{Small};
 ghost use Rattle.osc_class.specs.Rooms.{IsRoom};
 ghost use Rattle.osc_slot.specs.Areas.{area_of, slots_of, slots_in};
 ghost use Rattle.osc_slot.specs.Slots.{slot, beside, empty_page, first_slot, has_block, need_over, pages_alone};
-ghost use Rattle.osc_heap.specs.Layout.{AreSized, row_of, bits, with_bit};
+ghost use Rattle.osc_heap.specs.Layout.{AreFree, AreSized, free_row, row_of, bits, with_bit};
 
 use crate::area::Area;
-use crate::slots::{area_of, slots_of};
+use crate::slots::{area_of, room_at, slots_in, slots_of};
 use osc_class::Room;
+use std::alloc::{AllocError, Global};
+
+/// The areas of a heap that holds no block.
+pub fn free_areas(alloc: Global, frames: u32) -> Result<Vec<Area>, AllocError>
+    requires { frames ≤ 4096 }
+    ensures { IfOk result (λ areas. AreFree frames areas.items) }
+{
+    let count = 13 + frames as usize;
+    let mut areas = Vec::with_capacity(alloc, count)?;
+    for area in 0..count {
+        areas.push(Area::new(alloc, slots_in(frames, room_at(area)))?)?;
+    }
+    Ok(areas)
+}
 
 // The area of a room.
 fn area_for(areas: &[Area], frames: u32, room: Room) -> &Area
@@ -119,4 +133,24 @@ pub fn is_held(areas: &[Area], room: Room, slot: usize) -> bool
     ensures { result ≡ bits areas.now room slot }
 {
     areas[area_of(room)].is_held(slot)
+}
+
+/// Frees each slot of each area.
+pub fn clear_all(areas: &mut Vec<Area>)
+    ensures { areas.new.items ≡ map free_row areas.old.items }
+{
+    for i in 0..areas.len() {
+        areas[i].clear();
+    }
+}
+
+/// Holds the slots that other areas of these sizes hold.
+pub fn copy_all(areas: &[Area], into: &mut Vec<Area>, frames: u32)
+    requires from { (length areas.now ≡ 13 + frames) × AreSized frames 0 areas.now }
+    requires to { (length into.old.items ≡ 13 + frames) × AreSized frames 0 into.old.items }
+    ensures { into.new.items ≡ areas.now }
+{
+    for i in 0..areas.len() {
+        into[i].copy_from(&areas[i]);
+    }
 }

@@ -48,6 +48,20 @@ impl Model for CanonHeap {
 }
 
 impl CanonHeap {
+    /// A heap that holds no block, in a machine of so many frames. It takes all its room here.
+    pub fn new(alloc: Global, frames: u32) -> Result<CanonHeap, AllocError>
+        requires { frames ≤ 4096 }
+        ensures { IfOk result (λ heap. (heap ≡ empty_heap frames) × IsHeap heap) }
+    {
+        let areas = areas::free_areas(alloc, frames)?;
+        let pages = Vec::with_capacity(alloc, frames as usize)?;
+        Ok(CanonHeap {
+            frames,
+            areas,
+            pages,
+        })
+    }
+
     /// The frames that the next block of a room newly takes.
     pub fn need(&self, room: Room) -> u64
         requires { IsRoom room }
@@ -122,5 +136,30 @@ impl CanonHeap {
         areas::set_slot(&mut self.areas, block.room, slot, false);
         let count = areas::pages_alone(&self.areas, self.frames, block.room, slot);
         pages::give_range(&mut self.pages, frames, block.start / 4096, count);
+    }
+
+    /// Copies the held blocks to the empty heap of a child, over the frames that `names` has for theirs.
+    pub fn copy_to(&self, child: &mut CanonHeap, names: &[u32])
+        requires empty { child.old ≡ empty_heap self.now.frames }
+        requires names { AreNames self.now.frames names.now self.now.pages }
+        ensures child { child.new ≡ copy names.now self.now }
+        ensures valid { IsHeap self.now × IsHeap child.new }
+    {
+        areas::copy_all(&self.areas, &mut child.areas, self.frames);
+        pages::copy_all(&self.pages, &mut child.pages, names);
+    }
+
+    /// Releases each block: the frames of all pages are free.
+    pub fn clear(&mut self, frames: &mut Frames)
+        requires { FramesAgree self.old frames.old }
+        ensures heap { self.new ≡ (clear self.old frames.old).heap }
+        ensures free { frames.new ≡ (clear self.old frames.old).free }
+        ensures frames_agree { FramesAgree self.new frames.new }
+        ensures add_up { free_count frames.new ≡ free_count frames.old + length self.old.pages }
+        ensures valid { IsHeap self.new }
+    {
+        pages::give_all(&self.pages, frames);
+        self.pages.clear();
+        areas::clear_all(&mut self.areas);
     }
 }

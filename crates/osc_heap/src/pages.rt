@@ -1,11 +1,11 @@
 //! The pages that hold blocks, in their order, each with its frame.
 
-ghost use Rattle.std.specs.Prelude.{◌≡◌, ◌+◌, ◌^◌, ◌<◌, ◌≤◌, nat_le, filter, length, position, IfSome};
+ghost use Rattle.std.specs.Prelude.{◌≡◌, ◌+◌, ◌^◌, ◌<◌, ◌≤◌, nat_le, filter, length, position, map, [], IfSome};
 ghost use Rattle.std.specs.Vec.{vec_len, vec_capacity};
 ghost use Rattle.osc_frames.specs.Free.{free_count};
 ghost use Rattle.osc_slot.specs.declared.HeapPage.{HeapPage};
 ghost use Rattle.osc_slot.specs.Ordered.{insert_by};
-ghost use Rattle.osc_slot.specs.Heap.{frame_of, back, give_back};
+ghost use Rattle.osc_slot.specs.Heap.{frame_of, back, give_back, rename, HaveFrames};
 ghost use Rattle.osc_heap.specs.Layout.{in_range, out_of_range, CanGiveBack};
 
 use osc_frames::Frames;
@@ -89,5 +89,18 @@ pub fn give_all(pages: &[HeapPage], frames: &mut Frames)
 {
     for page in pages {
         frames.give(page.frame);
+    }
+}
+
+/// Copies pages to an empty list, each with the frame that `names` has for its own.
+pub fn copy_all(pages: &[HeapPage], into: &mut Vec<HeapPage>, names: &[u32])
+    requires empty { into.old.items ≡ [] }
+    requires room { length pages.now ≤ vec_capacity into.old }
+    requires names { HaveFrames (length names.now) pages.now }
+    ensures pages { into.new.items ≡ map (rename names.now) pages.now }
+    ensures room { vec_capacity into.old ≤ vec_capacity into.new }
+{
+    for page in pages {
+        into.push(HeapPage { page: page.page, frame: names[page.frame as usize] }).unwrap();
     }
 }
