@@ -11,16 +11,17 @@ use Rattle.osc_slot.specs.declared.Block.{Block}
 use Rattle.osc_slot.specs.declared.HeapPage.{HeapPage}
 use Rattle.osc_slot.specs.Least.{least, any}
 use Rattle.osc_slot.specs.Areas.{first_page, area_of, slots_of, slots_in, page_of, start_of, block_at_slot, IsPlaced}
-use Rattle.osc_slot.specs.Slots.{is_held, Holds, holds_in, has_block, beside, empty_page, first_slot, or_else, slot, need, need_over, pages_alone, least_start, start_of_slot, is_covered}
+use Rattle.osc_slot.specs.Slots.{is_block, is_held, Holds, holds_in, has_block, beside, empty_page, first_slot, or_else, slot, need, need_over, pages_alone, least_start, start_of_slot, is_covered}
 use Rattle.osc_slot.specs.Heap.{Heap, HeapAndFree, Backing, back, give_back, with_block, without_block, next_block, place, release, copy, rename, empty_heap, IsHeap, FramesAgree, Keeps, AreNames, free_count}
 use Rattle.osc_slot.proofs.Bounds.{start_page, in_area, pages_within, pages_positive}
 use Rattle.osc_slot.proofs.Exists.{same_slot}
+use Rattle.osc_slot.proofs.HeldBlocks.{is_block_self}
 use Rattle.osc_slot.proofs.Placing.{Next, next, place_is, place_keeps, frames_fit}
 use Rattle.osc_slot.proofs.Fresh.{new_pages}
 use Rattle.osc_slot.proofs.Releasing.{Last, last, release_keeps, emptied, taken-filter}
 use Rattle.osc_slot.proofs.Backing.{frames-filter, has_page}
 use Rattle.osc_heap.specs.Layout.{room_at, bit_at, row_of, bits, with_bit, page_held, row_beside, row_empty_page, in_range, out_of_range, CanGiveBack, blocks_from, AreSized, all_free, heap_of, AreParts}
-use Rattle.osc_slot.proofs.InOrder.{filter_same}
+use Rattle.osc_slot.proofs.InOrder.{any-insert, filter_same}
 use Rattle.osc_heap.proofs.Giving.{can_give}
 use Rattle.osc_heap.proofs.Rows.{held_is_bit}
 use Rattle.osc_heap.proofs.Changes.{more_in_area, less_in_area, sized-set, room_sized}
@@ -99,8 +100,12 @@ length-with_bit rows room i t = grind (arith, common_steps)
 pub record PlacedParts (frames : ℕ) (rows : List (List Bool)) (pages : List HeapPage) (room : Room) (free : List Bool) (i : ℕ) (now : List HeapPage) (left : List Bool) (capacity : ℕ) : Type 0 where
   pub heap : heap_of frames (with_bit rows room i true) now ≡ (place (heap_of frames rows pages) room free).heap
   pub freed : left ≡ (place (heap_of frames rows pages) room free).free
+  pub there : is_held (blocks_from frames 0 (with_bit rows room i true)) (block_at_slot frames room i) ≡ true
   pub parts : AreParts frames (with_bit rows room i true) now capacity
   pub keeps : Keeps (heap_of frames rows pages) free (place (heap_of frames rows pages) room free)
+
+put_there : (b : Block) (held : List Block) → is_held (with_block b held) b ≡ true
+put_there b held = any-insert (λ (c : Block). c.start) (λ c. is_block b c) b held ∙ (let e = is_block_self b in grind (arith, nat_tests, e))
 
 pub placed_parts : (frames : ℕ) (rows : List (List Bool)) (pages : List HeapPage) (room : Room) (free : List Bool) (capacity : ℕ) (p : AreParts frames rows pages capacity) (f : FramesAgree (heap_of frames rows pages) free) (r : IsRoom room)
     (n : need frames (blocks_from frames 0 rows) room ≤ free_count free) (s : Spot frames rows pages room free capacity) (after : ℕ) → capacity ≤ after
@@ -123,6 +128,7 @@ placed_parts frames rows pages room free capacity p f r n s after l =
     rw first (record {
       heap = heap;
       freed = sym (ap (λ (now : HeapAndFree). now.free) is);
+      there = ap (λ blocks. is_held blocks (block_at_slot frames room s.next.slot)) (sym held) ∙ put_there (block_at_slot frames room s.next.slot) (blocks_from frames 0 rows);
       parts = record {
         most = p.most;
         areas = omega arith;
@@ -271,6 +277,7 @@ chosen {frames} {rows} {pages} {capacity} {heap} {room} {free} t i e =
 pub record Placed (frames : ℕ) (rows : List (List Bool)) (heap : Heap) (room : Room) (free : List Bool) (i : ℕ) (now : List HeapPage) (left : List Bool) (after : ℕ) : Type 0 where
   pub start : Some (start_of frames room i) ≡ least_start heap.frames heap.held room
   pub block : block_at_slot frames room i ≡ next_block heap room
+  pub there : is_held (blocks_from frames 0 (with_bit rows room i true)) (block_at_slot frames room i) ≡ true
   pub heap_is : heap_of frames (with_bit rows room i true) now ≡ (place heap room free).heap
   pub freed : left ≡ (place heap room free).free
   pub parts : AreParts frames (with_bit rows room i true) now after
@@ -294,6 +301,7 @@ placed_here {frames} {rows} {pages} {capacity} {heap} {room} {free} t after l =
     record {
       start = sym s.next.is;
       block = sym s.next.block;
+      there = d.there;
       heap_is = d.heap;
       freed = d.freed;
       parts = d.parts;

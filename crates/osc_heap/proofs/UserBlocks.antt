@@ -72,3 +72,9 @@ no_slot_here frames rows pages capacity user start heap is p l s none =
     go : (t : Bool) → has_number (λ (c : Block). c.start) start (blocks_from frames 0 rows) ≡ t → t ≡ false
     go true e = absurd (clash (found frames (λ b. b.start == start) (blocks_from frames 0 rows) p.is_heap.placed e))
     go false e = refl
+
+pub held_here : (frames : ℕ) (rows : List (List Bool)) (pages : List HeapPage) (start : ℕ) (room : Room) (slot : ℕ) (heap : Heap) → heap_of frames rows pages ≡ heap → IsRoom room → start ≡ start_of frames room slot → bits rows room slot ≡ true → is_held heap.held (record { start = start; room = room }) ≡ true
+held_here frames rows pages start room slot heap is r e b =
+    let there : is_held (blocks_from frames 0 rows) (block_at_slot frames room slot) ≡ true = held_is_bit frames rows room slot r ∙ b in
+    let P : Heap → Type 0 = λ h. is_held h.held (record { start = start; room = room }) ≡ true in
+    subst P is (rw e there)

@@ -11,7 +11,7 @@ mod slots;
 
 pub use osc_slot::Block;
 
-ghost use Rattle.std.specs.Prelude.{◌≡◌, ◌+◌, ◌<◌, ◌≤◌, length, is_some, true, Some, IfOk};
+ghost use Rattle.std.specs.Prelude.{◌≡◌, ◌+◌, ◌<◌, ◌≤◌, length, is_some, true, Some, IfOk, IfSome};
 ghost use Rattle.osc_class.specs.Rooms.{IsRoom};
 ghost use Rattle.osc_slot.specs.Slots.{is_held, is_covered, least_start, need};
 ghost use Rattle.osc_slot.specs.Heap.{IsHeap, FramesAgree, AreNames, empty_heap, next_block, place, release, clear, copy, frame_of, block_of_user, free_count};
@@ -84,6 +84,7 @@ impl CanonHeap {
     /// none.
     pub fn block_at(&self, user: u64) -> Option<Block>
         ensures block { result ≡ block_of_user self.now.held user }
+        ensures held { IfSome result (λ block. (is_held self.now.held block ≡ true) × IsRoom block.room) }
         ensures valid { IsHeap self.now }
     {
         let _frames = self.frames;
@@ -108,6 +109,7 @@ impl CanonHeap {
         requires enough { need self.old.frames self.old.held room ≤ free_count frames.old }
         ensures start { Some result.start ≡ least_start self.old.frames self.old.held room }
         ensures block { result ≡ next_block self.old room }
+        ensures held { is_held self.new.held result ≡ true }
         ensures heap { self.new ≡ (place self.old room frames.old).heap }
         ensures free { frames.new ≡ (place self.old room frames.old).free }
         ensures frames_agree { FramesAgree self.new frames.new }

@@ -69,3 +69,7 @@ copy_is_heap heap names h n = record {
   frames_apart = n.1;
   count = length-rename names heap.pages ∙ h.count;
 }
+
+pub empty_agrees : (free : List Bool) → FramesAgree (empty_heap (length free)) free
+unfolding AreTaken
+empty_agrees free = record { count = refl; taken = tt }

@@ -1,6 +1,6 @@
 //! The laws of heaps. Each is the contract of a function that does nothing.
 
-ghost use Rattle.std.specs.Prelude.{ℕ, ◌≡◌, ◌≢◌, ◌+◌, ◌*◌, ◌/◌, ◌<◌, ◌≤◌, Bool, List, true, IsSome};
+ghost use Rattle.std.specs.Prelude.{ℕ, ◌≡◌, ◌≢◌, ◌+◌, ◌*◌, ◌/◌, ◌<◌, ◌≤◌, Bool, List, true, IsSome, length};
 ghost use Rattle.osc_class.specs.declared.Room.{Room};
 ghost use Rattle.osc_class.specs.Rooms.{IsRoom, shadow_pages};
 ghost use Rattle.osc_slot.specs.declared.Block.{Block};
@@ -32,6 +32,12 @@ pub fn slot_exists()
 pub fn empty_is_heap()
     ensures { (frames : ℕ) → IsHeap (empty_heap frames) }
 {}
+
+/// An empty heap agrees with any free frames of its machine.
+pub fn empty_agrees()
+    ensures { (free : List Bool) → FramesAgree (empty_heap (length free)) free }
+{
+}
 
 /// To place a block keeps a heap, and free and held frames add up.
 pub fn placing_keeps()

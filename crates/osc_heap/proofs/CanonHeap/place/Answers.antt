@@ -47,6 +47,7 @@ returns c =
     record {
       start = rw c.start_of-start.ensures.start d.start;
       block = rw c.start_of-start.ensures.start d.block;
+      held = rw (c.set_slot.ensures, c.start_of-start.ensures.start) d.there;
       heap = rw c.set_slot.ensures d.heap_is;
       free = d.freed;
       frames_agree = rw c.set_slot.ensures d.agree;
