@@ -1,0 +1,13 @@
+//! The whole machine as one call: words and an image come in, the guest's output, a line on err and a
+//! status go out.
+#![tactic(auto)]
+
+mod delivery;
+mod flat;
+mod loading;
+mod outcome;
+mod top;
+
+
+pub use outcome::{Outcome, Status};
+pub use top::oscar;
