@@ -10,3 +10,6 @@ mod stream;
 pub use memory::{MemorySink, MemorySource};
 pub use outside::{Failed, Sink, Source};
 pub use stream::{StdSink, StdSource};
+
+#[cfg(test)]
+mod tests;

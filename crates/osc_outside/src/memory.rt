@@ -26,11 +26,11 @@ impl Model for MemorySource {
     ghost Value = { MemoryInput };
 
     ghost view = { λ source. record {
-        left = drop source.given source.bytes.items;
-        most = source.most;
-        failing = source.failing.items;
-        calls = source.calls;
-        faults = source.faults
+      left = drop source.given source.bytes.items;
+      most = source.most;
+      failing = source.failing.items;
+      calls = source.calls;
+      faults = source.faults;
     } };
 
     ghost invariant = { λ source. (source.given ≤ vec_len source.bytes) × (0 < source.most) };
@@ -105,12 +105,12 @@ impl Model for MemorySink {
     ghost Value = { MemoryOutput };
 
     ghost view = { λ sink. record {
-        holds = sink.bytes.items;
-        room = sink.room;
-        most = sink.most;
-        failing = sink.failing.items;
-        calls = sink.calls;
-        faults = sink.faults
+      holds = sink.bytes.items;
+      room = sink.room;
+      most = sink.most;
+      failing = sink.failing.items;
+      calls = sink.calls;
+      faults = sink.faults;
     } };
 
     ghost invariant = { λ sink. (vec_len sink.bytes ≤ sink.room)
@@ -121,7 +121,12 @@ impl MemorySink {
     /// An empty sink with room for `room` bytes, which takes at most `most` bytes a call. The calls
     /// whose numbers are in `failing` fail; they are numbered from 1. The room is taken here, so
     /// that no write takes memory.
-    pub fn new(alloc: Global, room: u32, most: u32, failing: Vec<u64>) -> Result<MemorySink, AllocError>
+    pub fn new(
+        alloc: Global,
+        room: u32,
+        most: u32,
+        failing: Vec<u64>,
+    ) -> Result<MemorySink, AllocError>
         requires { 0 < most }
         ensures { IfOk result (λ sink. sink ≡
             record { holds = []; room = room; most = most; failing = failing.items; calls = 0; faults = 0 }) }
