@@ -1,5 +1,5 @@
 // The traits of the outside.
-ghost use Rattle.std.specs.Prelude.{ℕ, List};
+ghost use Rattle.std.specs.Prelude.{ℕ, List, Some, codes};
 ghost use Rattle.std.specs.declared.option.Option.{Option};
 ghost use Rattle.osc_outside.specs.Faults.{HasCause};
 ghost use Rattle.osc_outside.specs.Calls.{ReadsAtMost, ReadConsumes, WritesAtMost, TakesSome, WriteAppends};
@@ -12,6 +12,8 @@ use std::fmt;
 pub struct Failed;
 
 impl fmt::Display for Failed {
+    ghost output = { λ _. Some (codes "the outside failed") };
+
     fn fmt<W: fmt::Write>(&self, f: &mut fmt::Formatter<W>) -> fmt::Result {
         write!(f, "the outside failed")
     }

@@ -1,7 +1,8 @@
-use Rattle.std.proofs.Common.{arith, ◌≡◌, ℕ, ◌+◌, ◌≤◌, List, ◌++◌, take, drop, length, sym, ◌∙◌, ap, Some}
+-- What a read gave and what it left are what there was before, and nothing into a buffer with place is the end.
+use Rattle.std.proofs.Common.{arith, ◌≡◌, ℕ, ◌+◌, ◌≤◌, List, ◌++◌, take, drop, length, ap, Some}
 use Rattle.std.proofs.lemmas.Grind.{common_steps}
 use Rattle.std.proofs.lemmas.List.{nil_from_length, drop-drop}
-use Rattle.osc_outside.proofs.memory.MemorySourceSource.read.Goals as goal
+use Rattle.osc_outside.proofs.memory_source.MemorySourceSource.read.Goals as goal
 
 -- the front of the buffer, and then the bytes that follow, are what was left
 joined : (bytes left into front : List ℕ) (given count : ℕ) → left ≡ drop given bytes → front ≡ take count left
@@ -11,6 +12,8 @@ joined bytes left into front given count rest copied within =
 
 pub returns-clause-bytes : goal.returns-clause-bytes
 returns-clause-bytes c = (
-  rw (← c.self.view_is) (ap Some (joined c.self.inside.bytes.items _ c.args.into.now c.copy_from_slice.new.self c.self.inside.given c.min-count.result (grind (arith, common_steps)) (grind (arith, common_steps)) (grind (arith, common_steps)))),
+  rw (← c.self.view_is) (ap Some
+      (joined _ _ _ _ c.self.inside.given c.min-count.result
+      (grind (arith, common_steps)) (grind (arith, common_steps)) (grind (arith, common_steps)))),
   λ none place. nil_from_length _ (grind (arith, common_steps)),
 )
