@@ -1,7 +1,7 @@
 -- What contracts see of a source and a sink over a stream of std. This project's own.
 use Rattle.std.specs.Prelude.{ℕ}
-use Rattle.osc_outside.specs.declared.stream.StdSource.{StdSource}
-use Rattle.osc_outside.specs.declared.stream.StdSink.{StdSink}
+use Rattle.osc_outside.specs.declared.std_source.StdSource.{StdSource}
+use Rattle.osc_outside.specs.declared.std_sink.StdSink.{StdSink}
 
 -- the stream that the source reads, and how many of its reads failed
 abbrev pub source_stream : {R : Type 0} → StdSource R → R

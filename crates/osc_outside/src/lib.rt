@@ -3,10 +3,17 @@
 //! There is a pair in memory, which tells its bytes, and a pair over std's streams, which does not.
 #![tactic(auto)]
 
-mod memory;
+mod memory_sink;
+mod memory_source;
 mod outside;
-mod stream;
+mod std_sink;
+mod std_source;
 
-pub use memory::{MemorySink, MemorySource};
+pub use memory_sink::MemorySink;
+pub use memory_source::MemorySource;
 pub use outside::{Failed, Sink, Source};
-pub use stream::{StdSink, StdSource};
+pub use std_sink::StdSink;
+pub use std_source::StdSource;
+
+#[cfg(test)]
+mod tests;

@@ -1,12 +1,25 @@
 // The traits of the outside.
-ghost use Rattle.std.specs.Prelude.{ℕ, List};
+ghost use Rattle.std.specs.Prelude.{ℕ, List, Some, codes};
 ghost use Rattle.std.specs.declared.option.Option.{Option};
 ghost use Rattle.osc_outside.specs.Faults.{HasCause};
 ghost use Rattle.osc_outside.specs.Calls.{ReadsAtMost, ReadConsumes, WritesAtMost, TakesSome, WriteAppends};
 
+use std::error::Error;
+use std::fmt;
+
 /// The outside refused a call. What it was called for was not done.
 #[derive(Clone, Copy, Debug, PartialEq, Eq)]
 pub struct Failed;
+
+impl fmt::Display for Failed {
+    ghost output = { λ _. Some (codes "the outside failed") };
+
+    fn fmt<W: fmt::Write>(&self, f: &mut fmt::Formatter<W>) -> fmt::Result {
+        write!(f, "the outside failed")
+    }
+}
+
+impl Error for Failed {}
 
 /// Where bytes come from.
 pub trait Source {
