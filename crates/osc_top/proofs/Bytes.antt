@@ -14,7 +14,7 @@ with_front-snoc xs byte (Some rest) = ap Some (append_assoc xs (byte ∷ []) res
 -- the bytes that are left, one byte further on
 pub bytes_of-next : (image : Image) (from i count byte : ℕ) (xs : List ℕ) → i < count → byte_of image from ≡ Some byte
     → with_front (xs ++ byte ∷ []) (bytes_of image (wrapped (from + 1)) (count - (i + 1)))
-      ≡ with_front xs (bytes_of image from (count - i))
+    ≡ with_front xs (bytes_of image from (count - i))
 unfolding bytes_of
 bytes_of-next image from i count byte xs below read =
     let more : count - i ≡ suc (count - (i + 1)) = omega arith in

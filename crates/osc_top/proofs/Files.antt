@@ -54,11 +54,11 @@ whole-long : (before : List ℕ) (after : Option (List ℕ)) (file left : List �
     → length file ≡ longest_read → Whole (Some before) after file
 whole-long before after file left known split long =
     let rest : drop longest_read before ≡ left =
-      ap (drop longest_read) split ∙ (ap (λ n. drop n (file ++ left)) (sym long) ∙ drop-append_seam file left) in
+    ap (drop longest_read) split ∙ (ap (λ n. drop n (file ++ left)) (sym long) ∙ drop-append_seam file left) in
     record {
       all = before;
       same = sym (ap due_of split ∙ due_of-long file left long);
-      read = (refl, known ∙ ap Some (sym rest))
+      read = (refl, known ∙ ap Some (sym rest));
     }
 
 whole-told : (before : List ℕ) (after : Option (List ℕ)) (file : List ℕ) → IsLoaded (Some before) after file
@@ -66,10 +66,10 @@ whole-told : (before : List ℕ) (after : Option (List ℕ)) (file : List ℕ) �
 whole-told before after file loaded =
     let told = Consumes-told before after file loaded.taken in
     elim (eq-or-lt_of_le loaded.bound) [
-      inl exact ↦ whole-long before after file told.0 told.1 told.2 exact
-    | inr short ↦
-        let ends = loaded.ends short in
-        whole-short before after file told.0 told.1 told.2 (rw told.1 at ends) loaded.bound
+      | inl exact ↦ whole-long before after file told.0 told.1 told.2 exact
+      | inr short ↦
+          let ends = loaded.ends short in
+          whole-short before after file told.0 told.1 told.2 (rw told.1 at ends) loaded.bound
     ]
 
 whole-of : (before after : Option (List ℕ)) (file : List ℕ) → IsLoaded before after file → Whole before after file

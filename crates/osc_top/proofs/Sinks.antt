@@ -17,5 +17,5 @@ Broken-line (Err e) a b c d P Q output line all cause part =
       of_line = part.0;
       out = rw take-length all;
       err = part.1;
-      order = λ _. omega arith
+      order = λ _. omega arith;
     }

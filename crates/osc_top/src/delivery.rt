@@ -6,9 +6,8 @@ ghost use Rattle.osc_outside.specs.Faults.{Rose};
 ghost use Rattle.osc_top.specs.Due.{HasGuestStatus};
 ghost use Rattle.osc_top.specs.Answer.{Broken, Delivered};
 
-use osc_outside::{Failed, Sink};
-
 use crate::outcome::{Outcome, Status};
+use osc_outside::{Failed, Sink};
 
 /// The status where a sink failed.
 const SINK_FAULT: u8 = 67;
@@ -46,7 +45,12 @@ fn write_both<O: Sink, E: Sink>(
 }
 
 /// Delivers what is due, and answers the status: that of the outcome, or 67 where a sink failed.
-pub fn deliver<O: Sink, E: Sink>(outcome: Outcome, output: &[u8], out: &mut O, err: &mut E) -> Status
+pub fn deliver<O: Sink, E: Sink>(
+    outcome: Outcome,
+    output: &[u8],
+    out: &mut O,
+    err: &mut E,
+) -> Status
     requires { HasGuestStatus outcome }
     ensures { Delivered (O.holds out.old) (O.holds out.new) (E.holds err.old) (E.holds err.new)
         (Rose (O.faults out.old) (O.faults out.new) ⊎ Rose (E.faults err.old) (E.faults err.new))

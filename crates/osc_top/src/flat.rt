@@ -7,16 +7,16 @@ ghost use Rattle.osc_isa.specs.Numbers as numbers;
 ghost use Rattle.osc_isa.specs.Integer as integer;
 ghost use Rattle.osc_top.specs.Flat as flat;
 
-use std::alloc::{AllocError, Global};
-use std::marker::Model;
-
 use osc_elf::Image;
 use osc_isa::IntDone;
 use osc_rv::{ImmOp, Instr, UpperOp, decode};
 use osc_word::Regs;
+use std::alloc::{AllocError, Global};
+use std::marker::Model;
 
 /// The first address of the main stack, and the first after it.
 const STACK_START: u64 = 0x1_000F_0000;
+
 const STACK_END: u64 = 0x1_0010_0000;
 
 /// The most bytes of output.
@@ -27,7 +27,9 @@ const PAGE: u64 = 4096;
 
 /// The registers of a call: its number, and its first two arguments.
 const A7: u8 = 17;
+
 const A0: u8 = 10;
+
 const A1: u8 = 11;
 
 /// The stack pointer.
@@ -35,6 +37,7 @@ const SP: u8 = 2;
 
 /// The numbers of the calls.
 const EXIT: u64 = 1;
+
 const WRITE: u64 = 2;
 
 /// A byte that can be read: the image's, or 0 on the stack.
@@ -116,10 +119,11 @@ fn done_of(instr: &Instr, regs: &Regs, pc: u64) -> IntDone
         },
         Instr::Jal { rd, half } => {
             let target = pc.wrapping_add(extended(21, half.value() as u64 * 2));
+            let link = pc.wrapping_add(4);
             if target.is_multiple_of(4) {
                 IntDone::Set {
                     rd: rd.value() as u8,
-                    value: pc.wrapping_add(4),
+                    value: link,
                     pc: target,
                 }
             } else {

@@ -8,6 +8,8 @@ mod loading;
 mod outcome;
 mod top;
 
-
 pub use outcome::{Outcome, Status};
 pub use top::oscar;
+
+#[cfg(test)]
+mod tests;

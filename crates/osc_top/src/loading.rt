@@ -4,11 +4,9 @@ ghost use Rattle.std.specs.Prelude.{◌≡◌, ◌≤◌, ◌<◌, IfOk, vec_len
 ghost use Rattle.osc_outside.specs.Faults.{Rose, HasCause};
 ghost use Rattle.osc_top.specs.Loading.{Loads, ReadsFront};
 
-use std::alloc::{AllocError, Global};
-
-use osc_outside::{Failed, Source};
-
 use crate::outcome::Refusal;
+use osc_outside::{Failed, Source};
+use std::alloc::{AllocError, Global};
 
 /// The bytes of one read.
 const PIECE: usize = 65_536;

@@ -2,10 +2,9 @@
 
 ghost use Rattle.std.specs.Prelude.{◌≡◌};
 
-use std::alloc::AllocError;
-
 use osc_elf::ImageFault;
 use osc_outside::Failed;
+use std::alloc::AllocError;
 
 /// The exit status of the program, 0 to 255.
 #[derive(Clone, Copy, Debug, PartialEq, Eq)]

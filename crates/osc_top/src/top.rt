@@ -6,16 +6,14 @@ ghost use Rattle.osc_top.specs.Due.{due_of, HasGuestStatus};
 ghost use Rattle.osc_top.specs.Answer.{Decided, Answers};
 ghost use Rattle.osc_top.specs.Deciding.{Yields, Runs};
 
-use std::alloc::Global;
-use std::marker::Model;
-
-use osc_elf::read_image;
-use osc_outside::{Sink, Source};
-
 use crate::delivery::deliver;
 use crate::flat::{Hart, Ran};
 use crate::loading::load;
 use crate::outcome::{Outcome, Refusal, Status};
+use osc_elf::read_image;
+use osc_outside::{Sink, Source};
+use std::alloc::Global;
+use std::marker::Model;
 
 /// The most instructions that are run.
 const BUDGET: u32 = 1_000_000;

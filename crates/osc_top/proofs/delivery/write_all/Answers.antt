@@ -8,7 +8,7 @@ loop-at-preserved g c =
     record {
       within = omega (arith, c.in_ok-at.ensures.bound, length-drop {A = ℕ}, length-take {A = ℕ});
       sent =
-        Appends-take _ _ _ c.args.text.now c.loop-at.at c.in_ok-at.field-0 c.loop-at.invariant.sent
-        (rw take_rest at c.in_ok-at.ensures.bytes);
-      later = omega (arith, c.write.ensures.cause.later)
+          Appends-take _ _ _ c.args.text.now c.loop-at.at c.in_ok-at.field-0 c.loop-at.invariant.sent
+          (rw take_rest at c.in_ok-at.ensures.bytes);
+      later = omega (arith, c.write.ensures.cause.later);
     }

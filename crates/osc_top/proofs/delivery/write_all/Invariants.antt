@@ -7,7 +7,7 @@ invariant-loop-at g l =
     record {
       within : l.at ≤ length l.text;
       sent : Appends (g.K.Sink.holds l.fn.sink) (g.K.Sink.holds l.sink) (take l.at l.text);
-      later : g.K.Sink.faults l.fn.sink ≤ g.K.Sink.faults l.sink
+      later : g.K.Sink.faults l.fn.sink ≤ g.K.Sink.faults l.sink;
     }
 
 abbrev pub decreases-loop-at : goal.decreases-loop-at

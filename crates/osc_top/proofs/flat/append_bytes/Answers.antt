@@ -12,12 +12,12 @@ pub loop-preserved : goal.loop-preserved
 loop-preserved c =
     record {
       reads =
-        rw c.push_reserved.ensures.items (bytes_of-next c.args.image.now c.loop.from c.loop.counter c.args.count c.in-Some.byte c.loop.output.items
-        c.loop-test.true (sym c.byte_at.ensures ∙ c.in-Some.is) ∙ c.loop.invariant.reads);
+          rw c.push_reserved.ensures.items (bytes_of-next c.args.image.now c.loop.from c.loop.counter c.args.count c.in-Some.byte c.loop.output.items
+          c.loop-test.true (sym c.byte_at.ensures ∙ c.in-Some.is) ∙ c.loop.invariant.reads);
       front = grind (arith, common_steps);
       grown = grind (arith, common_steps);
       room = grind (arith, common_steps);
-      start = c.loop.invariant.start
+      start = c.loop.invariant.start;
     }
 
 pub returns-clause-told : goal.returns-clause-told

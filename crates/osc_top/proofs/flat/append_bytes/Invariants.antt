@@ -9,5 +9,5 @@ invariant-loop l =
       front : take l.before l.output.items ≡ l.fn.output.items;
       grown : vec_len l.output ≡ l.before + l.counter;
       room : vec_capacity l.output ≡ vec_capacity l.fn.output;
-      start : l.before ≡ vec_len l.fn.output
+      start : l.before ≡ vec_len l.fn.output;
     }

@@ -8,7 +8,7 @@ invariant-loop-file g l =
       taken : Consumes (g.S.Source.left l.fn.source) (g.S.Source.left l.source) l.file.items;
       bound : vec_len l.file ≤ 16777217;
       later : g.S.Source.faults l.fn.source ≤ g.S.Source.faults l.source;
-      piece : vec_len l.piece ≡ 65536
+      piece : vec_len l.piece ≡ 65536;
     }
 
 abbrev pub decreases-loop-file : goal.decreases-loop-file
