@@ -1,7 +1,7 @@
 -- The meaning of an instruction word of RV64IA with fence.i, and the word of an instruction, by the
 -- listings of the RISC-V Unprivileged manual ("RV32/64G Instruction Set Listings"). A word is a
 -- number below 2 ^ 32.
-use Rattle.std.specs.Prelude.{ℕ, ◌+◌, ◌*◌, ◌^◌, ◌==◌, Bool, if◌then◌else◌, Option, None, Some}
+use Rattle.std.specs.Prelude.{ℕ, ◌+◌, ◌*◌, ◌^◌, ◌<◌, ◌==◌, Bool, if◌then◌else◌, Option, None, Some}
 use Rattle.std.specs.Option.{option_map, option_and_then, option_or}
 use Rattle.osc_rv.specs.Bits.{bits}
 use Rattle.osc_rv.specs.Codes.{upper_opcode, branch_funct3, branch_at, load_funct3, load_at, store_funct3, store_at, imm_opcode, imm_funct3, imm_at, shift_funct3, shift_funct6, shift_at, reg_opcode, reg_funct3, reg_funct7, reg_at, amo_funct5, amo_at, width_funct3, width_at}
@@ -141,3 +141,23 @@ word_of Ebreak = 0x100073
 word_of (Amo op width rd rs1 rs2 aq rl) = atomic_word (amo_funct5 op) width rd rs1 rs2 aq rl
 word_of (Lr width rd rs1 aq rl) = atomic_word 0b00010 width rd rs1 0 aq rl
 word_of (Sc width rd rs1 rs2 aq rl) = atomic_word 0b00011 width rd rs1 rs2 aq rl
+
+-- what an instruction keeps by the types of its fields
+abbrev pub FieldsFit : Instr → Type 0
+FieldsFit (Upper op rd imm) = (rd < 2 ^ 5) × (imm < 2 ^ 20)
+FieldsFit (Jal rd half) = (rd < 2 ^ 5) × (half < 2 ^ 20)
+FieldsFit (Jalr rd rs1 imm) = (rd < 2 ^ 5) × (rs1 < 2 ^ 5) × (imm < 2 ^ 12)
+FieldsFit (Branch kind rs1 rs2 half) = (rs1 < 2 ^ 5) × (rs2 < 2 ^ 5) × (half < 2 ^ 12)
+FieldsFit (Load kind rd rs1 imm) = (rd < 2 ^ 5) × (rs1 < 2 ^ 5) × (imm < 2 ^ 12)
+FieldsFit (Store kind rs1 rs2 imm) = (rs1 < 2 ^ 5) × (rs2 < 2 ^ 5) × (imm < 2 ^ 12)
+FieldsFit (Imm op rd rs1 imm) = (rd < 2 ^ 5) × (rs1 < 2 ^ 5) × (imm < 2 ^ 12)
+FieldsFit (Shift op rd rs1 amount) = (rd < 2 ^ 5) × (rs1 < 2 ^ 5) × (amount < 2 ^ 6)
+FieldsFit (ShiftW op rd rs1 amount) = (rd < 2 ^ 5) × (rs1 < 2 ^ 5) × (amount < 2 ^ 5)
+FieldsFit (Op op rd rs1 rs2) = (rd < 2 ^ 5) × (rs1 < 2 ^ 5) × (rs2 < 2 ^ 5)
+FieldsFit (Fence free) = free < 2 ^ 22
+FieldsFit (FenceI free) = free < 2 ^ 22
+FieldsFit Ecall = Unit {0}
+FieldsFit Ebreak = Unit {0}
+FieldsFit (Amo op width rd rs1 rs2 aq rl) = (rd < 2 ^ 5) × (rs1 < 2 ^ 5) × (rs2 < 2 ^ 5)
+FieldsFit (Lr width rd rs1 aq rl) = (rd < 2 ^ 5) × (rs1 < 2 ^ 5)
+FieldsFit (Sc width rd rs1 rs2 aq rl) = (rd < 2 ^ 5) × (rs1 < 2 ^ 5) × (rs2 < 2 ^ 5)

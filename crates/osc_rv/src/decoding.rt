@@ -1,8 +1,8 @@
-ghost use Rattle.std.specs.Prelude.{◌≡◌, ◌<◌};
+ghost use Rattle.std.specs.Prelude.{◌≡◌, ◌<◌, IfSome};
 ghost use Rattle.std.specs.Option.{option_or, option_and_then};
 ghost use Rattle.osc_rv.specs.Codes.{width_at};
 ghost use Rattle.osc_rv.specs.Formats.{s_imm, b_half, j_half, fence_bits};
-ghost use Rattle.osc_rv.specs.Instr.{instr_of, jalr_of, branch_of, load_of, store_of, imm_of, shift_of, shift_w_of, reg_of, fence_of, system_of, atomic_of, funct3_of};
+ghost use Rattle.osc_rv.specs.Instr.{instr_of, word_of, opcode_of, jalr_of, branch_of, load_of, store_of, imm_of, shift_of, shift_w_of, reg_of, fence_of, system_of, atomic_of, funct3_of};
 
 use crate::codes::{
     AMO, AUIPC, BRANCH, EBREAK, ECALL, JAL, JALR, LOAD, LR, LUI, MISC_MEM, OP, OP_32, OP_IMM,
@@ -15,12 +15,21 @@ use crate::instr::{
 
 /// The instruction of `word`; None where the manual's listings of RV64IA and `fence.i` have no
 /// such word.
-#[tactic(auto, unfolding(crate::specs::Instr::instr_of))]
 pub fn decode(word: u32) -> Option<Instr>
+    ensures instr { result ≡ instr_of word }
+    ensures written_back { IfSome result (λ instr. word_of instr ≡ word) }
+{
+    decode_at(bits_of(word, 0, 7), word)
+}
+
+/// The instruction of a word with this opcode.
+#[tactic(auto, unfolding(crate::specs::Instr::instr_of))]
+fn decode_at(opcode: u32, word: u32) -> Option<Instr>
+    requires { opcode ≡ opcode_of word }
     ensures { result ≡ instr_of word }
 {
     let rd: Field<5> = Field::of_word(word, 7);
-    match bits_of(word, 0, 7) {
+    match opcode {
         LUI => Some(Instr::Upper {
             op: UpperOp::Lui,
             rd,

@@ -7,12 +7,12 @@
 
 mod codes;
 mod decoding;
-//mod encoding;
+mod encoding;
 mod field;
 mod instr;
 
 pub use decoding::decode;
-//pub use encoding::encode;
+pub use encoding::encode;
 pub use field::Field;
 pub use instr::{
     AmoOp, BranchKind, ImmOp, Instr, LoadKind, RegOp, ShiftOp, StoreKind, UpperOp, Width,
