@@ -4,7 +4,7 @@ use Rattle.std.specs.List.{find}
 use Rattle.std.specs.Option.{option_map, option_and_then, option_or}
 use Rattle.std.proofs.lemmas.Bool.{cond_both, eqb-true, and_parts}
 use Rattle.osc_rv.specs.Bits.{bits}
-use Rattle.osc_rv.specs.Codes.{upper_opcode, branch_funct3, branch_at, load_funct3, load_at, store_funct3, store_at, imm_opcode, imm_funct3, imm_at, shift_funct3, shift_funct6, shift_at, reg_opcode, reg_funct3, reg_funct7, reg_at, amo_funct5, amo_at, width_funct3, width_at}
+use Rattle.osc_rv.specs.Codes.{upper_opcode, branch_funct3, branch_kinds, load_funct3, load_kinds, store_funct3, store_kinds, imm_opcode, imm_funct3, imm_ops, shift_funct3, shift_funct6, shift_ops, reg_opcode, reg_funct3, reg_funct7, reg_ops, amo_funct5, amo_ops, width_funct3, widths}
 use Rattle.osc_rv.specs.Formats.{s_imm, b_half, j_half, fence_bits}
 use Rattle.osc_rv.specs.Instr.{instr_of, word_of, FieldsFit, jalr_of, branch_of, load_of, store_of, imm_of, shift_of, shift_w_of, reg_of, fence_of, system_of, atomic_of, aq_of, rl_of}
 use Rattle.osc_rv.specs.declared.instr.UpperOp.{UpperOp}
@@ -196,5 +196,115 @@ cases : (word : ℕ) (test : Bool) (first second : Option Instr) → (test ≡ t
     → Back word (cond test first second)
 cases word test first second a b = cond_both test first second (Back word) a (λ e. b)
 
+-- a word of this opcode that the rows of the opcode read
+branch_back : (word : ℕ) → word < 2 ^ 32 → bits 0 7 word ≡ 0x63 → Back word (branch_of word)
+unfolding word_of
+branch_back word h o =
+    found word (λ kind. Branch kind (bits 15 5 word) (bits 20 5 word) (b_half word)) _ branch_kinds
+        (λ kind e. b_whole word 0x63 (branch_funct3 kind) h o (eqb-true _ _ e))
+
+load_back : (word : ℕ) → word < 2 ^ 32 → bits 0 7 word ≡ 0x03 → Back word (load_of word)
+unfolding word_of
+load_back word h o =
+    found word (λ kind. Load kind (bits 7 5 word) (bits 15 5 word) (bits 20 12 word)) _ load_kinds
+        (λ kind e. i_whole word 0x03 (load_funct3 kind) (bits 20 12 word) h o (eqb-true _ _ e) refl)
+
+store_back : (word : ℕ) → word < 2 ^ 32 → bits 0 7 word ≡ 0x23 → Back word (store_of word)
+unfolding word_of
+store_back word h o =
+    found word (λ kind. Store kind (bits 15 5 word) (bits 20 5 word) (s_imm word)) _ store_kinds
+        (λ kind e. s_whole word 0x23 (store_funct3 kind) h o (eqb-true _ _ e))
+
+imm_back : (word opcode : ℕ) → word < 2 ^ 32 → bits 0 7 word ≡ opcode → Back word (imm_of opcode word)
+unfolding word_of
+imm_back word opcode h o =
+    found word (λ op. Imm op (bits 7 5 word) (bits 15 5 word) (bits 20 12 word)) _ imm_ops (λ op e.
+        let both = and_parts _ _ e in
+        i_whole word (imm_opcode op) (imm_funct3 op) (bits 20 12 word) h (o ∙ sym (eqb-true _ _ both.0))
+            (eqb-true _ _ both.1) refl)
+
+shift_back : (word : ℕ) → word < 2 ^ 32 → bits 0 7 word ≡ 0x13 → Back word (shift_of word)
+unfolding word_of
+shift_back word h o =
+    found word (λ op. Shift op (bits 7 5 word) (bits 15 5 word) (bits 20 6 word)) _ shift_ops (λ op e.
+        let both = and_parts _ _ e in
+        let imm : bits 20 6 word + shift_funct6 op * 2 ^ 6 ≡ bits 20 12 word =
+            rw (eqb-true (shift_funct6 op) (bits 26 6 word) both.1) (bits-join 20 6 6 word) in
+        i_whole word 0x13 (shift_funct3 op) (bits 20 6 word + shift_funct6 op * 2 ^ 6) h o (eqb-true _ _ both.0) imm)
+
+shift_w_back : (word : ℕ) → word < 2 ^ 32 → bits 0 7 word ≡ 0x1B → Back word (shift_w_of word)
+unfolding Back word_of
+shift_w_back word h o =
+    cases word (bits 25 1 word == 0) _ None
+        (λ z. found word (λ op. ShiftW op (bits 7 5 word) (bits 15 5 word) (bits 20 5 word)) _ shift_ops (λ op e.
+            let both = and_parts _ _ e in
+            let amount : bits 20 5 word ≡ bits 20 6 word =
+                omega (arith, bits-join 20 5 1 word, eqb-true (bits 25 1 word) 0 z) in
+            let imm : bits 20 5 word + shift_funct6 op * 2 ^ 6 ≡ bits 20 12 word =
+                rw (amount, eqb-true (shift_funct6 op) (bits 26 6 word) both.1) (bits-join 20 6 6 word) in
+            i_whole word 0x1B (shift_funct3 op) (bits 20 5 word + shift_funct6 op * 2 ^ 6) h o
+                (eqb-true _ _ both.0) imm))
+        tt
+
+reg_back : (word opcode : ℕ) → word < 2 ^ 32 → bits 0 7 word ≡ opcode → Back word (reg_of opcode word)
+unfolding word_of
+reg_back word opcode h o =
+    found word (λ op. Op op (bits 7 5 word) (bits 15 5 word) (bits 20 5 word)) _ reg_ops (λ op e.
+        let outer = and_parts _ _ e in
+        let inner = and_parts _ _ outer.0 in
+        r_whole word (reg_opcode op) (reg_funct3 op) (reg_funct7 op) h (o ∙ sym (eqb-true _ _ inner.0))
+            (eqb-true _ _ inner.1) (eqb-true _ _ outer.1))
+
+fence_back : (word : ℕ) → word < 2 ^ 32 → bits 0 7 word ≡ 0x0F → Back word (fence_of word)
+unfolding Back word_of
+fence_back word h o =
+    cases word (bits 12 3 word == 0) _ _ (λ f. fence_whole word 0x0F 0 h o (sym (eqb-true _ _ f)))
+        (cases word (bits 12 3 word == 1) _ _ (λ f. fence_whole word 0x0F 1 h o (sym (eqb-true _ _ f))) tt)
+
+atomic_back : (word : ℕ) (width : Width) → word < 2 ^ 32 → bits 0 7 word ≡ 0x2F → width_funct3 width ≡ bits 12 3 word
+    → Back word (atomic_of word width)
+unfolding Back word_of
+atomic_back word width h o f =
+    cases word (bits 27 5 word == 0b00010) _ _
+        (λ g. cases word (bits 20 5 word == 0) _ _
+            (λ z. atomic_whole word 0b00010 width 0 h o f (sym (eqb-true _ _ g)) (sym (eqb-true _ _ z)))
+            tt)
+        (cases word (bits 27 5 word == 0b00011) _ _
+            (λ g. atomic_whole word 0b00011 width (bits 20 5 word) h o f (sym (eqb-true _ _ g)) refl)
+            (found word (λ op. Amo op width (bits 7 5 word) (bits 15 5 word) (bits 20 5 word) (aq_of word) (rl_of word)) _ amo_ops
+                (λ op e. atomic_whole word (amo_funct5 op) width (bits 20 5 word) h o f (eqb-true _ _ e) refl)))
+
+width_back : (word : ℕ) → word < 2 ^ 32 → bits 0 7 word ≡ 0x2F → (xs : List Width)
+    → Back word (option_and_then (atomic_of word) (find (λ width. width_funct3 width == bits 12 3 word) xs))
+unfolding Back
+width_back word h o [] = tt
+width_back word h o (width ∷ xs) =
+    cond_both (width_funct3 width == bits 12 3 word) (Some width)
+        (find (λ width. width_funct3 width == bits 12 3 word) xs) (λ found. Back word (option_and_then (atomic_of word) found))
+        (λ e. atomic_back word width h o (eqb-true _ _ e)) (λ e. width_back word h o xs)
+
 pub written_back : (word : ℕ) → word < 2 ^ 32 → IfSome (instr_of word) (λ instr. word_of instr ≡ word)
-written_back word h = let x = or_back in let y = found in let z = cases in ?
+unfolding Back instr_of word_of
+written_back word h =
+    let opcode : ℕ = bits 0 7 word in
+    cases word (opcode == 0x37) _ _ (λ e. u_whole word 0x37 h (eqb-true _ _ e))
+        (cases word (opcode == 0x17) _ _ (λ e. u_whole word 0x17 h (eqb-true _ _ e))
+        (cases word (opcode == 0x6F) _ _ (λ e. j_whole word 0x6F h (eqb-true _ _ e))
+        (cases word (opcode == 0x67) _ _
+            (λ e. cases word (bits 12 3 word == 0) _ _
+                (λ f. i_whole word 0x67 0 (bits 20 12 word) h (eqb-true _ _ e) (sym (eqb-true _ _ f)) refl)
+                tt)
+        (cases word (opcode == 0x63) _ _ (λ e. branch_back word h (eqb-true _ _ e))
+        (cases word (opcode == 0x03) _ _ (λ e. load_back word h (eqb-true _ _ e))
+        (cases word (opcode == 0x23) _ _ (λ e. store_back word h (eqb-true _ _ e))
+        (cases word (opcode == 0x13) _ _
+            (λ e. or_back word _ _ (imm_back word 0x13 h (eqb-true _ _ e)) (shift_back word h (eqb-true _ _ e)))
+        (cases word (opcode == 0x1B) _ _
+            (λ e. or_back word _ _ (imm_back word 0x1B h (eqb-true _ _ e)) (shift_w_back word h (eqb-true _ _ e)))
+        (cases word (opcode == 0x33) _ _ (λ e. reg_back word 0x33 h (eqb-true _ _ e))
+        (cases word (opcode == 0x3B) _ _ (λ e. reg_back word 0x3B h (eqb-true _ _ e))
+        (cases word (opcode == 0x0F) _ _ (λ e. fence_back word h (eqb-true _ _ e))
+        (cases word (opcode == 0x73) _ _
+            (λ e. cases word (word == 0x73) _ _ (λ f. sym (eqb-true _ _ f))
+                (cases word (word == 0x100073) _ _ (λ f. sym (eqb-true _ _ f)) tt))
+        (cases word (opcode == 0x2F) _ _ (λ e. width_back word h (eqb-true _ _ e) widths) tt)))))))))))))

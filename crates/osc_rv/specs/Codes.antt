@@ -35,8 +35,11 @@ branch_funct3 Bge = 5
 branch_funct3 Bltu = 6
 branch_funct3 Bgeu = 7
 
+abbrev pub branch_kinds : List BranchKind
+branch_kinds = Beq ∷ Bne ∷ Blt ∷ Bge ∷ Bltu ∷ Bgeu ∷ []
+
 abbrev pub branch_at : ℕ → Option BranchKind
-branch_at funct3 = find (λ kind. branch_funct3 kind == funct3) (Beq ∷ Bne ∷ Blt ∷ Bge ∷ Bltu ∷ Bgeu ∷ [])
+branch_at funct3 = find (λ kind. branch_funct3 kind == funct3) branch_kinds
 
 -- opcode LOAD: funct3
 abbrev pub load_funct3 : LoadKind → ℕ
@@ -48,8 +51,11 @@ load_funct3 Lbu = 4
 load_funct3 Lhu = 5
 load_funct3 Lwu = 6
 
+abbrev pub load_kinds : List LoadKind
+load_kinds = Lb ∷ Lh ∷ Lw ∷ Ld ∷ Lbu ∷ Lhu ∷ Lwu ∷ []
+
 abbrev pub load_at : ℕ → Option LoadKind
-load_at funct3 = find (λ kind. load_funct3 kind == funct3) (Lb ∷ Lh ∷ Lw ∷ Ld ∷ Lbu ∷ Lhu ∷ Lwu ∷ [])
+load_at funct3 = find (λ kind. load_funct3 kind == funct3) load_kinds
 
 -- opcode STORE: funct3
 abbrev pub store_funct3 : StoreKind → ℕ
@@ -58,8 +64,11 @@ store_funct3 Sh = 1
 store_funct3 Sw = 2
 store_funct3 Sd = 3
 
+abbrev pub store_kinds : List StoreKind
+store_kinds = Sb ∷ Sh ∷ Sw ∷ Sd ∷ []
+
 abbrev pub store_at : ℕ → Option StoreKind
-store_at funct3 = find (λ kind. store_funct3 kind == funct3) (Sb ∷ Sh ∷ Sw ∷ Sd ∷ [])
+store_at funct3 = find (λ kind. store_funct3 kind == funct3) store_kinds
 
 -- opcodes OP-IMM and OP-IMM-32: opcode and funct3
 abbrev pub imm_opcode : ImmOp → ℕ
@@ -75,10 +84,11 @@ imm_funct3 Ori = 6
 imm_funct3 Andi = 7
 imm_funct3 Addiw = 0
 
+abbrev pub imm_ops : List ImmOp
+imm_ops = Addi ∷ Slti ∷ Sltiu ∷ Xori ∷ Ori ∷ Andi ∷ Addiw ∷ []
+
 abbrev pub imm_at : ℕ → ℕ → Option ImmOp
-imm_at opcode funct3 =
-    find (λ op. (imm_opcode op == opcode) && (imm_funct3 op == funct3))
-        (Addi ∷ Slti ∷ Sltiu ∷ Xori ∷ Ori ∷ Andi ∷ Addiw ∷ [])
+imm_at opcode funct3 = find (λ op. (imm_opcode op == opcode) && (imm_funct3 op == funct3)) imm_ops
 
 -- the shifts of the same opcodes: funct3, and bits 31 to 26
 abbrev pub shift_funct3 : ShiftOp → ℕ
@@ -91,9 +101,11 @@ shift_funct6 Left = 0
 shift_funct6 Right = 0
 shift_funct6 Signed = 0x10
 
+abbrev pub shift_ops : List ShiftOp
+shift_ops = Left ∷ Right ∷ Signed ∷ []
+
 abbrev pub shift_at : ℕ → ℕ → Option ShiftOp
-shift_at funct3 funct6 =
-    find (λ op. (shift_funct3 op == funct3) && (shift_funct6 op == funct6)) (Left ∷ Right ∷ Signed ∷ [])
+shift_at funct3 funct6 = find (λ op. (shift_funct3 op == funct3) && (shift_funct6 op == funct6)) shift_ops
 
 -- opcodes OP and OP-32: opcode, funct3 and funct7
 abbrev pub reg_opcode : RegOp → ℕ
@@ -128,10 +140,11 @@ reg_funct7 Subw = 0x20
 reg_funct7 Sraw = 0x20
 reg_funct7 _ = 0
 
+abbrev pub reg_ops : List RegOp
+reg_ops = Add ∷ Sub ∷ Sll ∷ Slt ∷ Sltu ∷ Xor ∷ Srl ∷ Sra ∷ Or ∷ And ∷ Addw ∷ Subw ∷ Sllw ∷ Srlw ∷ Sraw ∷ []
+
 abbrev pub reg_at : ℕ → ℕ → ℕ → Option RegOp
-reg_at opcode funct3 funct7 =
-    find (λ op. (reg_opcode op == opcode) && (reg_funct3 op == funct3) && (reg_funct7 op == funct7))
-        (Add ∷ Sub ∷ Sll ∷ Slt ∷ Sltu ∷ Xor ∷ Srl ∷ Sra ∷ Or ∷ And ∷ Addw ∷ Subw ∷ Sllw ∷ Srlw ∷ Sraw ∷ [])
+reg_at opcode funct3 funct7 = find (λ op. (reg_opcode op == opcode) && (reg_funct3 op == funct3) && (reg_funct7 op == funct7)) reg_ops
 
 -- opcode AMO: funct5 of those that have an operation, and funct3
 abbrev pub amo_funct5 : AmoOp → ℕ
@@ -145,14 +158,18 @@ amo_funct5 AmoMax = 0b10100
 amo_funct5 AmoMinu = 0b11000
 amo_funct5 AmoMaxu = 0b11100
 
+abbrev pub amo_ops : List AmoOp
+amo_ops = AmoAdd ∷ AmoSwap ∷ AmoXor ∷ AmoOr ∷ AmoAnd ∷ AmoMin ∷ AmoMax ∷ AmoMinu ∷ AmoMaxu ∷ []
+
 abbrev pub amo_at : ℕ → Option AmoOp
-amo_at funct5 =
-    find (λ op. amo_funct5 op == funct5)
-        (AmoAdd ∷ AmoSwap ∷ AmoXor ∷ AmoOr ∷ AmoAnd ∷ AmoMin ∷ AmoMax ∷ AmoMinu ∷ AmoMaxu ∷ [])
+amo_at funct5 = find (λ op. amo_funct5 op == funct5) amo_ops
 
 abbrev pub width_funct3 : Width → ℕ
 width_funct3 W = 2
 width_funct3 D = 3
 
+abbrev pub widths : List Width
+widths = W ∷ D ∷ []
+
 abbrev pub width_at : ℕ → Option Width
-width_at funct3 = find (λ width. width_funct3 width == funct3) (W ∷ D ∷ [])
+width_at funct3 = find (λ width. width_funct3 width == funct3) widths
