@@ -22,18 +22,18 @@ pub r_fields : (opcode rd funct3 rs1 rs2 funct7 : ℕ) → opcode < 2 ^ 7 → rd
     → rs2 < 2 ^ 5 → funct7 < 2 ^ 7
     → RFields (r_word opcode rd funct3 rs1 rs2 funct7) opcode rd funct3 rs1 rs2 funct7
 r_fields opcode rd funct3 rs1 rs2 funct7 o d f s t g = record {
-    opcode_is = bits-at 0 7 (rd + funct3 * 2 ^ 5 + rs1 * 2 ^ 8 + rs2 * 2 ^ 13 + funct7 * 2 ^ 18) opcode 0 _
-        (omega arith) (omega arith) o;
-    rd_is = bits-at 7 5 (funct3 + rs1 * 2 ^ 3 + rs2 * 2 ^ 8 + funct7 * 2 ^ 13) rd opcode _ (omega arith) o d;
-    funct3_is = bits-at 12 3 (rs1 + rs2 * 2 ^ 5 + funct7 * 2 ^ 10) funct3 (opcode + rd * 2 ^ 7) _
-        (omega arith) (omega arith) f;
-    rs1_is = bits-at 15 5 (rs2 + funct7 * 2 ^ 5) rs1 (opcode + rd * 2 ^ 7 + funct3 * 2 ^ 12) _
-        (omega arith) (omega arith) s;
-    rs2_is = bits-at 20 5 funct7 rs2 (opcode + rd * 2 ^ 7 + funct3 * 2 ^ 12 + rs1 * 2 ^ 15) _
-        (omega arith) (omega arith) t;
-    funct7_is = bits-at 25 7 0 funct7 (opcode + rd * 2 ^ 7 + funct3 * 2 ^ 12 + rs1 * 2 ^ 15 + rs2 * 2 ^ 20) _
-        (omega arith) (omega arith) g
-  }
+  opcode_is = bits-at 0 7 (rd + funct3 * 2 ^ 5 + rs1 * 2 ^ 8 + rs2 * 2 ^ 13 + funct7 * 2 ^ 18) opcode 0 _
+      (omega arith) (omega arith) o;
+  rd_is = bits-at 7 5 (funct3 + rs1 * 2 ^ 3 + rs2 * 2 ^ 8 + funct7 * 2 ^ 13) rd opcode _ (omega arith) o d;
+  funct3_is = bits-at 12 3 (rs1 + rs2 * 2 ^ 5 + funct7 * 2 ^ 10) funct3 (opcode + rd * 2 ^ 7) _
+      (omega arith) (omega arith) f;
+  rs1_is = bits-at 15 5 (rs2 + funct7 * 2 ^ 5) rs1 (opcode + rd * 2 ^ 7 + funct3 * 2 ^ 12) _
+      (omega arith) (omega arith) s;
+  rs2_is = bits-at 20 5 funct7 rs2 (opcode + rd * 2 ^ 7 + funct3 * 2 ^ 12 + rs1 * 2 ^ 15) _
+      (omega arith) (omega arith) t;
+  funct7_is = bits-at 25 7 0 funct7 (opcode + rd * 2 ^ 7 + funct3 * 2 ^ 12 + rs1 * 2 ^ 15 + rs2 * 2 ^ 20) _
+      (omega arith) (omega arith) g;
+}
 
 pub record IFields (word opcode rd funct3 rs1 imm : ℕ) : Type 0 where
   pub opcode_is : bits 0 7 word ≡ opcode
@@ -50,14 +50,14 @@ i_fields opcode rd funct3 rs1 imm o d f s i =
     let halves : bits 0 5 imm + bits 5 7 imm * 2 ^ 5 ≡ imm = bits-join 0 5 7 imm ∙ bits-all 12 imm i in
     let same : r_word opcode rd funct3 rs1 (bits 0 5 imm) (bits 5 7 imm) ≡ w = omega arith in
     let r : RFields w opcode rd funct3 rs1 (bits 0 5 imm) (bits 5 7 imm) =
-        rw (← same) (r_fields opcode rd funct3 rs1 _ _ o d f s (bits_below 0 5 imm) (bits_below 5 7 imm)) in
+    rw (← same) (r_fields opcode rd funct3 rs1 _ _ o d f s (bits_below 0 5 imm) (bits_below 5 7 imm)) in
     record {
-        opcode_is = r.opcode_is;
-        rd_is = r.rd_is;
-        funct3_is = r.funct3_is;
-        rs1_is = r.rs1_is;
-        imm_is = rw (← bits-join 20 5 7 w, r.rs2_is, r.funct7_is) halves
-      }
+      opcode_is = r.opcode_is;
+      rd_is = r.rd_is;
+      funct3_is = r.funct3_is;
+      rs1_is = r.rs1_is;
+      imm_is = rw (← bits-join 20 5 7 w, r.rs2_is, r.funct7_is) halves;
+    }
 
 pub record SFields (word opcode funct3 rs1 rs2 imm : ℕ) : Type 0 where
   pub opcode_is : bits 0 7 word ≡ opcode
@@ -72,12 +72,12 @@ pub s_fields : (opcode funct3 rs1 rs2 imm : ℕ) → opcode < 2 ^ 7 → funct3 <
 s_fields opcode funct3 rs1 rs2 imm o f s t i =
     let r = r_fields opcode (bits 0 5 imm) funct3 rs1 rs2 (bits 5 7 imm) o (bits_below 0 5 imm) f s t (bits_below 5 7 imm) in
     record {
-        opcode_is = r.opcode_is;
-        funct3_is = r.funct3_is;
-        rs1_is = r.rs1_is;
-        rs2_is = r.rs2_is;
-        imm_is = rw (r.rd_is, r.funct7_is, bits-join 0 5 7 imm) (bits-all 12 imm i)
-      }
+      opcode_is = r.opcode_is;
+      funct3_is = r.funct3_is;
+      rs1_is = r.rs1_is;
+      rs2_is = r.rs2_is;
+      imm_is = rw (r.rd_is, r.funct7_is, bits-join 0 5 7 imm) (bits-all 12 imm i);
+    }
 
 pub record BFields (word opcode funct3 rs1 rs2 half : ℕ) : Type 0 where
   pub opcode_is : bits 0 7 word ≡ opcode
@@ -98,17 +98,17 @@ b_fields opcode funct3 rs1 rs2 half o f s t h =
     let b11 = bits_below 11 1 half in
     let same : r_word opcode rd funct3 rs1 rs2 funct7 ≡ w = omega arith in
     let r : RFields w opcode rd funct3 rs1 rs2 funct7 =
-        rw (← same) (r_fields opcode rd funct3 rs1 rs2 funct7 o (omega arith) f s t (omega arith)) in
+    rw (← same) (r_fields opcode rd funct3 rs1 rs2 funct7 o (omega arith) f s t (omega arith)) in
     let low = bits-split 7 1 4 w (bits 10 1 half) (bits 0 4 half) b10 r.rd_is in
     let high = bits-split 25 6 1 w (bits 4 6 half) (bits 11 1 half) b4 r.funct7_is in
     record {
-        opcode_is = r.opcode_is;
-        funct3_is = r.funct3_is;
-        rs1_is = r.rs1_is;
-        rs2_is = r.rs2_is;
-        half_is = rw (low.0, low.1, high.0, high.1, bits-join 0 4 6 half, bits-join 0 10 1 half, bits-join 0 11 1 half)
-            (bits-all 12 half h)
-      }
+      opcode_is = r.opcode_is;
+      funct3_is = r.funct3_is;
+      rs1_is = r.rs1_is;
+      rs2_is = r.rs2_is;
+      half_is = rw (low.0, low.1, high.0, high.1, bits-join 0 4 6 half, bits-join 0 10 1 half, bits-join 0 11 1 half)
+          (bits-all 12 half h);
+    }
 
 pub record UFields (word opcode rd imm : ℕ) : Type 0 where
   pub opcode_is : bits 0 7 word ≡ opcode
@@ -118,10 +118,10 @@ pub record UFields (word opcode rd imm : ℕ) : Type 0 where
 pub u_fields : (opcode rd imm : ℕ) → opcode < 2 ^ 7 → rd < 2 ^ 5 → imm < 2 ^ 20
     → UFields (u_word opcode rd imm) opcode rd imm
 u_fields opcode rd imm o d i = record {
-    opcode_is = bits-at 0 7 (rd + imm * 2 ^ 5) opcode 0 _ (omega arith) (omega arith) o;
-    rd_is = bits-at 7 5 imm rd opcode _ (omega arith) o d;
-    imm_is = bits-at 12 20 0 imm (opcode + rd * 2 ^ 7) _ (omega arith) (omega arith) i
-  }
+  opcode_is = bits-at 0 7 (rd + imm * 2 ^ 5) opcode 0 _ (omega arith) (omega arith) o;
+  rd_is = bits-at 7 5 imm rd opcode _ (omega arith) o d;
+  imm_is = bits-at 12 20 0 imm (opcode + rd * 2 ^ 7) _ (omega arith) (omega arith) i;
+}
 
 pub record JFields (word opcode rd half : ℕ) : Type 0 where
   pub opcode_is : bits 0 7 word ≡ opcode
@@ -146,11 +146,11 @@ j_fields opcode rd half o d h =
     let mid = bits-split 12 9 10 w two (bits 0 10 half) (omega arith) top.0 in
     let low = bits-split 12 8 1 w (bits 11 8 half) (bits 10 1 half) b11 mid.0 in
     record {
-        opcode_is = u.opcode_is;
-        rd_is = u.rd_is;
-        half_is = rw (low.0, low.1, mid.1, top.1, bits-join 0 10 1 half, bits-join 0 11 8 half, bits-join 0 19 1 half)
-            (bits-all 20 half h)
-      }
+      opcode_is = u.opcode_is;
+      rd_is = u.rd_is;
+      half_is = rw (low.0, low.1, mid.1, top.1, bits-join 0 10 1 half, bits-join 0 11 8 half, bits-join 0 19 1 half)
+          (bits-all 20 half h);
+    }
 
 pub record FenceFields (word opcode funct3 free : ℕ) : Type 0 where
   pub opcode_is : bits 0 7 word ≡ opcode
@@ -167,12 +167,12 @@ fence_fields opcode funct3 free o f r =
     let b5 = bits_below 5 17 free in
     let low_is : bits 7 5 w ≡ low = bits-at 7 5 (funct3 + high * 2 ^ 3) low opcode _ (omega arith) o b0 in
     let high_is : bits 15 17 w ≡ high =
-        bits-at 15 17 0 high (opcode + low * 2 ^ 7 + funct3 * 2 ^ 12) _ (omega arith) (omega arith) b5 in
+    bits-at 15 17 0 high (opcode + low * 2 ^ 7 + funct3 * 2 ^ 12) _ (omega arith) (omega arith) b5 in
     record {
-        opcode_is = bits-at 0 7 (low + funct3 * 2 ^ 5 + high * 2 ^ 8) opcode 0 _ (omega arith) (omega arith) o;
-        funct3_is = bits-at 12 3 high funct3 (opcode + low * 2 ^ 7) _ (omega arith) (omega arith) f;
-        free_is = rw (low_is, high_is, bits-join 0 5 17 free) (bits-all 22 free r)
-      }
+      opcode_is = bits-at 0 7 (low + funct3 * 2 ^ 5 + high * 2 ^ 8) opcode 0 _ (omega arith) (omega arith) o;
+      funct3_is = bits-at 12 3 high funct3 (opcode + low * 2 ^ 7) _ (omega arith) (omega arith) f;
+      free_is = rw (low_is, high_is, bits-join 0 5 17 free) (bits-all 22 free r);
+    }
 
 -- ---- the word of its fields
 
@@ -180,13 +180,13 @@ pub r_whole : (word opcode funct3 funct7 : ℕ) → word < 2 ^ 32 → bits 0 7 w
     → funct7 ≡ bits 25 7 word → r_word opcode (bits 7 5 word) funct3 (bits 15 5 word) (bits 20 5 word) funct7 ≡ word
 r_whole word opcode funct3 funct7 h o f g =
     rw (← o, f, g, bits-join 0 7 5 word, bits-join 0 12 3 word, bits-join 0 15 5 word, bits-join 0 20 5 word, bits-join 0 25 7 word)
-        (bits-all 32 word h)
+    (bits-all 32 word h)
 
 pub i_whole : (word opcode funct3 imm : ℕ) → word < 2 ^ 32 → bits 0 7 word ≡ opcode → funct3 ≡ bits 12 3 word
     → imm ≡ bits 20 12 word → i_word opcode (bits 7 5 word) funct3 (bits 15 5 word) imm ≡ word
 i_whole word opcode funct3 imm h o f i =
     rw (← o, f, i, bits-join 0 7 5 word, bits-join 0 12 3 word, bits-join 0 15 5 word, bits-join 0 20 12 word)
-        (bits-all 32 word h)
+    (bits-all 32 word h)
 
 pub s_whole : (word opcode funct3 : ℕ) → word < 2 ^ 32 → bits 0 7 word ≡ opcode → funct3 ≡ bits 12 3 word
     → s_word opcode funct3 (bits 15 5 word) (bits 20 5 word) (s_imm word) ≡ word
@@ -194,9 +194,9 @@ s_whole word opcode funct3 h o f =
     let b = bits_below 7 5 word in
     let c = bits_below 25 7 word in
     let low : bits 0 5 (s_imm word) ≡ bits 7 5 word =
-        bits-at 0 5 (bits 25 7 word) (bits 7 5 word) 0 (s_imm word) (omega arith) (omega arith) b in
+    bits-at 0 5 (bits 25 7 word) (bits 7 5 word) 0 (s_imm word) (omega arith) (omega arith) b in
     let high : bits 5 7 (s_imm word) ≡ bits 25 7 word =
-        bits-at 5 7 0 (bits 25 7 word) (bits 7 5 word) (s_imm word) (omega arith) b c in
+    bits-at 5 7 0 (bits 25 7 word) (bits 7 5 word) (s_imm word) (omega arith) b c in
     rw (low, high) (r_whole word opcode funct3 (bits 25 7 word) h o f refl)
 
 pub b_whole : (word opcode funct3 : ℕ) → word < 2 ^ 32 → bits 0 7 word ≡ opcode → funct3 ≡ bits 12 3 word
@@ -209,11 +209,11 @@ b_whole word opcode funct3 h o f =
     let b31 = bits_below 31 1 word in
     let fits : half < 2 ^ 12 = omega arith in
     let top = bits-split 0 11 1 half (bits 8 4 word + bits 25 6 word * 2 ^ 4 + bits 7 1 word * 2 ^ 10) (bits 31 1 word)
-        (omega arith) (bits-all 12 half fits) in
+    (omega arith) (bits-all 12 half fits) in
     let mid = bits-split 0 10 1 half (bits 8 4 word + bits 25 6 word * 2 ^ 4) (bits 7 1 word) (omega arith) top.0 in
     let low = bits-split 0 4 6 half (bits 8 4 word) (bits 25 6 word) b8 mid.0 in
     rw (top.1, mid.1, low.0, low.1, ← o, f, bits-join 0 7 1 word, bits-join 0 8 4 word, bits-join 0 12 3 word, bits-join 0 15 5 word, bits-join 0 20 5 word, bits-join 0 25 6 word, bits-join 0 31 1 word)
-        (bits-all 32 word h)
+    (bits-all 32 word h)
 
 pub u_whole : (word opcode : ℕ) → word < 2 ^ 32 → bits 0 7 word ≡ opcode
     → u_word opcode (bits 7 5 word) (bits 12 20 word) ≡ word
@@ -229,11 +229,11 @@ j_whole word opcode h o =
     let b31 = bits_below 31 1 word in
     let fits : half < 2 ^ 20 = omega arith in
     let top = bits-split 0 19 1 half (bits 21 10 word + bits 20 1 word * 2 ^ 10 + bits 12 8 word * 2 ^ 11) (bits 31 1 word)
-        (omega arith) (bits-all 20 half fits) in
+    (omega arith) (bits-all 20 half fits) in
     let mid = bits-split 0 11 8 half (bits 21 10 word + bits 20 1 word * 2 ^ 10) (bits 12 8 word) (omega arith) top.0 in
     let low = bits-split 0 10 1 half (bits 21 10 word) (bits 20 1 word) b21 mid.0 in
     rw (top.1, mid.1, low.0, low.1, ← o, bits-join 0 7 5 word, bits-join 0 12 8 word, bits-join 0 20 1 word, bits-join 0 21 10 word, bits-join 0 31 1 word)
-        (bits-all 32 word h)
+    (bits-all 32 word h)
 
 pub fence_whole : (word opcode funct3 : ℕ) → word < 2 ^ 32 → bits 0 7 word ≡ opcode → funct3 ≡ bits 12 3 word
     → fence_word opcode funct3 (fence_bits word) ≡ word
@@ -259,8 +259,8 @@ pub bit_of-run : (low word : ℕ) → bit_of (bits low 1 word == 1) ≡ bits low
 bit_of-run low word =
     let b = bits_below low 1 word in
     cond_both (bits low 1 word == 1) 1 0 (λ n. n ≡ bits low 1 word)
-        (λ e. sym (eqb-true (bits low 1 word) 1 e))
-        (λ e. let n : bits low 1 word ≡ 1 → ⊥ = eqb-false (bits low 1 word) 1 e in omega arith)
+    (λ e. sym (eqb-true (bits low 1 word) 1 e))
+    (λ e. let n : bits low 1 word ≡ 1 → ⊥ = eqb-false (bits low 1 word) 1 e in omega arith)
 
 pub record AtomicFields (word funct5 rd funct3 rs1 rs2 : ℕ) (aq rl : Bool) : Type 0 where
   pub opcode_is : bits 0 7 word ≡ 0x2F
@@ -280,24 +280,24 @@ atomic_fields funct5 width rd rs1 rs2 aq rl g f d s t =
     let a = bit_of_below aq in
     let b = bit_of_below rl in
     let r = r_fields 0x2F rd (width_funct3 width) rs1 rs2 (bit_of rl + bit_of aq * 2 ^ 1 + funct5 * 2 ^ 2)
-        (omega arith) d f s t (omega arith) in
+    (omega arith) d f s t (omega arith) in
     let top = bits-split 25 2 5 w (bit_of rl + bit_of aq * 2 ^ 1) funct5 (omega arith) r.funct7_is in
     let low = bits-split 25 1 1 w (bit_of rl) (bit_of aq) b top.0 in
     record {
-        opcode_is = r.opcode_is;
-        rd_is = r.rd_is;
-        funct3_is = r.funct3_is;
-        rs1_is = r.rs1_is;
-        rs2_is = r.rs2_is;
-        rl_is = rw low.0 (bit-same rl);
-        aq_is = rw low.1 (bit-same aq);
-        funct5_is = top.1
-      }
+      opcode_is = r.opcode_is;
+      rd_is = r.rd_is;
+      funct3_is = r.funct3_is;
+      rs1_is = r.rs1_is;
+      rs2_is = r.rs2_is;
+      rl_is = rw low.0 (bit-same rl);
+      aq_is = rw low.1 (bit-same aq);
+      funct5_is = top.1;
+    }
 
 pub atomic_whole : (word funct5 : ℕ) (width : Width) (rs2 : ℕ) → word < 2 ^ 32 → bits 0 7 word ≡ 0x2F
     → width_funct3 width ≡ bits 12 3 word → funct5 ≡ bits 27 5 word → rs2 ≡ bits 20 5 word
     → atomic_word funct5 width (bits 7 5 word) (bits 15 5 word) rs2 (aq_of word) (rl_of word) ≡ word
 atomic_whole word funct5 width rs2 h o f g t =
     let funct7_is : bit_of (rl_of word) + bit_of (aq_of word) * 2 ^ 1 + funct5 * 2 ^ 2 ≡ bits 25 7 word =
-        rw (bit_of-run 25 word, bit_of-run 26 word, g, bits-join 25 1 1 word) (bits-join 25 2 5 word) in
+    rw (bit_of-run 25 word, bit_of-run 26 word, g, bits-join 25 1 1 word) (bits-join 25 2 5 word) in
     rw t (r_whole word 0x2F (width_funct3 width) (bit_of (rl_of word) + bit_of (aq_of word) * 2 ^ 1 + funct5 * 2 ^ 2) h o f funct7_is)

@@ -27,7 +27,7 @@ pub bits-join : (low m n word : ℕ) → bits low m word + bits (low + m) n word
 bits-join low m n word =
     let above : word / 2 ^ low / 2 ^ m ≡ word / 2 ^ (low + m) = shr-shr word low m in
     let both : word / 2 ^ low % 2 ^ (n + m) ≡ (word / 2 ^ low / 2 ^ m % 2 ^ n) * 2 ^ m + word / 2 ^ low % 2 ^ m
-        = mod-pow-add (word / 2 ^ low) n m in
+    = mod-pow-add (word / 2 ^ low) n m in
     let turned : m + n ≡ n + m = omega arith in
     rw (turned, both, above) (omega arith)
 
@@ -37,5 +37,5 @@ pub bits-split : (low m n word below above : ℕ) → below < 2 ^ m → bits low
 bits-split low m n word below above b e =
     let both : bits (low + m) n word * 2 ^ m + bits low m word ≡ above * 2 ^ m + below = omega (arith, bits-join low m n word) in
     let same : (bits (low + m) n word ≡ above) × (bits low m word ≡ below) =
-        same_from_place (bits (low + m) n word) (bits low m word) above below (2 ^ m) (bits_below low m word) b both in
+    same_from_place (bits (low + m) n word) (bits low m word) above below (2 ^ m) (bits_below low m word) b both in
     (same.1, same.0)

@@ -18,7 +18,7 @@ s_word opcode funct3 rs1 rs2 imm =
 abbrev pub b_word : ℕ → ℕ → ℕ → ℕ → ℕ → ℕ
 b_word opcode funct3 rs1 rs2 half =
     opcode + bits 10 1 half * 2 ^ 7 + bits 0 4 half * 2 ^ 8 + funct3 * 2 ^ 12 + rs1 * 2 ^ 15 + rs2 * 2 ^ 20
-        + bits 4 6 half * 2 ^ 25 + bits 11 1 half * 2 ^ 31
+    + bits 4 6 half * 2 ^ 25 + bits 11 1 half * 2 ^ 31
 
 abbrev pub u_word : ℕ → ℕ → ℕ → ℕ
 u_word opcode rd imm = opcode + rd * 2 ^ 7 + imm * 2 ^ 12
@@ -26,7 +26,7 @@ u_word opcode rd imm = opcode + rd * 2 ^ 7 + imm * 2 ^ 12
 abbrev pub j_word : ℕ → ℕ → ℕ → ℕ
 j_word opcode rd half =
     opcode + rd * 2 ^ 7 + bits 11 8 half * 2 ^ 12 + bits 10 1 half * 2 ^ 20 + bits 0 10 half * 2 ^ 21
-        + bits 19 1 half * 2 ^ 31
+    + bits 19 1 half * 2 ^ 31
 
 -- opcode MISC-MEM: every bit but those of opcode and funct3 is free
 abbrev pub fence_word : ℕ → ℕ → ℕ → ℕ

@@ -56,20 +56,20 @@ imm_of opcode word =
 abbrev pub shift_of : ℕ → Option Instr
 shift_of word =
     option_map (λ op. Shift op (rd_of word) (rs1_of word) (bits 20 6 word))
-        (shift_at (funct3_of word) (bits 26 6 word))
+    (shift_at (funct3_of word) (bits 26 6 word))
 
 -- the amount is in bits 24 to 20, and bit 25 is 0
 abbrev pub shift_w_of : ℕ → Option Instr
 shift_w_of word =
     if bits 25 1 word == 0
     then option_map (λ op. ShiftW op (rd_of word) (rs1_of word) (bits 20 5 word))
-        (shift_at (funct3_of word) (bits 26 6 word))
+    (shift_at (funct3_of word) (bits 26 6 word))
     else None
 
 abbrev pub reg_of : ℕ → ℕ → Option Instr
 reg_of opcode word =
     option_map (λ op. Op op (rd_of word) (rs1_of word) (rs2_of word))
-        (reg_at opcode (funct3_of word) (funct7_of word))
+    (reg_at opcode (funct3_of word) (funct7_of word))
 
 abbrev pub fence_of : ℕ → Option Instr
 fence_of word =
@@ -94,7 +94,7 @@ atomic_of word width =
     else if bits 27 5 word == 0b00011
     then Some (Sc width (rd_of word) (rs1_of word) (rs2_of word) (aq_of word) (rl_of word))
     else option_map (λ op. Amo op width (rd_of word) (rs1_of word) (rs2_of word) (aq_of word) (rl_of word))
-        (amo_at (bits 27 5 word))
+    (amo_at (bits 27 5 word))
 
 -- the instruction of a word: None where the listings have no such word
 unfoldable pub instr_of : ℕ → Option Instr

@@ -2,31 +2,44 @@
 ghost use Rattle.std.specs.Prelude.{◌≡◌, ◌<◌};
 ghost use Rattle.osc_rv.specs.Codes.{upper_opcode, branch_funct3, branch_at, load_funct3, load_at, store_funct3, store_at, imm_opcode, imm_funct3, imm_at, shift_funct3, shift_funct6, shift_at, reg_opcode, reg_funct3, reg_funct7, reg_at, amo_funct5, amo_at, width_funct3, width_at};
 
-use crate::instr::{
-    AmoOp, BranchKind, ImmOp, LoadKind, RegOp, ShiftOp, StoreKind, UpperOp, Width,
-};
+use crate::instr::{AmoOp, BranchKind, ImmOp, LoadKind, RegOp, ShiftOp, StoreKind, UpperOp, Width};
 
 pub(crate) const LOAD: u32 = 0x03;
+
 pub(crate) const MISC_MEM: u32 = 0x0F;
+
 pub(crate) const OP_IMM: u32 = 0x13;
+
 pub(crate) const AUIPC: u32 = 0x17;
+
 pub(crate) const OP_IMM_32: u32 = 0x1B;
+
 pub(crate) const STORE: u32 = 0x23;
+
 pub(crate) const AMO: u32 = 0x2F;
+
 pub(crate) const OP: u32 = 0x33;
+
 pub(crate) const LUI: u32 = 0x37;
+
 pub(crate) const OP_32: u32 = 0x3B;
+
 pub(crate) const BRANCH: u32 = 0x63;
+
 pub(crate) const JALR: u32 = 0x67;
+
 pub(crate) const JAL: u32 = 0x6F;
+
 pub(crate) const SYSTEM: u32 = 0x73;
 
 /// funct5 of lr and sc, which are no `AmoOp`.
 pub(crate) const LR: u32 = 0b00010;
+
 pub(crate) const SC: u32 = 0b00011;
 
 /// The words of ecall and ebreak, which have no free field.
 pub(crate) const ECALL: u32 = 0x0000_0073;
+
 pub(crate) const EBREAK: u32 = 0x0010_0073;
 
 impl UpperOp {

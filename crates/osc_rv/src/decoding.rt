@@ -188,10 +188,31 @@ fn atomic(width: Width, word: u32) -> Option<Instr>
     let aq = bits_of(word, 26, 1) == 1;
     let rl = bits_of(word, 25, 1) == 1;
     match bits_of(word, 27, 5) {
-        LR if rs2.value() == 0 => Some(Instr::Lr { width, rd, rs1, aq, rl }),
+        LR if rs2.value() == 0 => Some(Instr::Lr {
+            width,
+            rd,
+            rs1,
+            aq,
+            rl,
+        }),
         LR => None,
-        SC => Some(Instr::Sc { width, rd, rs1, rs2, aq, rl }),
-        funct5 => Some(Instr::Amo { op: AmoOp::at(funct5)?, width, rd, rs1, rs2, aq, rl }),
+        SC => Some(Instr::Sc {
+            width,
+            rd,
+            rs1,
+            rs2,
+            aq,
+            rl,
+        }),
+        funct5 => Some(Instr::Amo {
+            op: AmoOp::at(funct5)?,
+            width,
+            rd,
+            rs1,
+            rs2,
+            aq,
+            rl,
+        }),
     }
 }
 

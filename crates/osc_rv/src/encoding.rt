@@ -26,15 +26,35 @@ fn word(instr: &Instr) -> u32
         Instr::Upper { op, rd, imm } => format_u(op.opcode(), rd, imm),
         Instr::Jal { rd, half } => format_j(JAL, rd, half),
         Instr::Jalr { rd, rs1, imm } => format_i(JALR, rd, 0, rs1, imm),
-        Instr::Branch { kind, rs1, rs2, half } => format_b(BRANCH, kind.funct3(), rs1, rs2, half),
+        Instr::Branch {
+            kind,
+            rs1,
+            rs2,
+            half,
+        } => format_b(BRANCH, kind.funct3(), rs1, rs2, half),
         Instr::Load { kind, rd, rs1, imm } => format_i(LOAD, rd, kind.funct3(), rs1, imm),
-        Instr::Store { kind, rs1, rs2, imm } => format_s(STORE, kind.funct3(), rs1, rs2, imm),
+        Instr::Store {
+            kind,
+            rs1,
+            rs2,
+            imm,
+        } => format_s(STORE, kind.funct3(), rs1, rs2, imm),
         Instr::Imm { op, rd, rs1, imm } => format_i(op.opcode(), rd, op.funct3(), rs1, imm),
-        Instr::Shift { op, rd, rs1, amount } => {
+        Instr::Shift {
+            op,
+            rd,
+            rs1,
+            amount,
+        } => {
             let imm = Field::holding(amount.value() | op.funct6() << 6);
             format_i(OP_IMM, rd, op.funct3(), rs1, imm)
         }
-        Instr::ShiftW { op, rd, rs1, amount } => {
+        Instr::ShiftW {
+            op,
+            rd,
+            rs1,
+            amount,
+        } => {
             let imm = Field::holding(amount.value() | op.funct6() << 6);
             format_i(OP_IMM_32, rd, op.funct3(), rs1, imm)
         }
@@ -45,13 +65,30 @@ fn word(instr: &Instr) -> u32
         Instr::FenceI { bits } => fence(MISC_MEM, 1, bits),
         Instr::Ecall => ECALL,
         Instr::Ebreak => EBREAK,
-        Instr::Amo { op, width, rd, rs1, rs2, aq, rl } => {
-            atomic(op.funct5(), width, rd, rs1, rs2, aq, rl)
-        }
-        Instr::Lr { width, rd, rs1, aq, rl } => {
-            atomic(LR, width, rd, rs1, Field::holding(0), aq, rl)
-        }
-        Instr::Sc { width, rd, rs1, rs2, aq, rl } => atomic(SC, width, rd, rs1, rs2, aq, rl),
+        Instr::Amo {
+            op,
+            width,
+            rd,
+            rs1,
+            rs2,
+            aq,
+            rl,
+        } => { atomic(op.funct5(), width, rd, rs1, rs2, aq, rl) }
+        Instr::Lr {
+            width,
+            rd,
+            rs1,
+            aq,
+            rl,
+        } => { atomic(LR, width, rd, rs1, Field::holding(0), aq, rl) }
+        Instr::Sc {
+            width,
+            rd,
+            rs1,
+            rs2,
+            aq,
+            rl,
+        } => atomic(SC, width, rd, rs1, rs2, aq, rl),
     }
 }
 
@@ -67,12 +104,7 @@ fn format_r(
     ensures word { result ≡ r_word opcode rd funct3 rs1 rs2 funct7 }
     ensures fits { (rd < 2 ^ 5) × (rs1 < 2 ^ 5) × (rs2 < 2 ^ 5) }
 {
-    opcode
-        | rd.value() << 7
-        | funct3 << 12
-        | rs1.value() << 15
-        | rs2.value() << 20
-        | funct7 << 25
+    opcode | rd.value() << 7 | funct3 << 12 | rs1.value() << 15 | rs2.value() << 20 | funct7 << 25
 }
 
 fn format_i(opcode: u32, rd: Field<5>, funct3: u32, rs1: Field<5>, imm: Field<12>) -> u32
@@ -137,10 +169,7 @@ fn fence(opcode: u32, funct3: u32, bits: Field<22>) -> u32
     ensures word { result ≡ fence_word opcode funct3 bits }
     ensures fits { bits < 2 ^ 22 }
 {
-    opcode
-        | bits_of(bits.value(), 0, 5) << 7
-        | funct3 << 12
-        | bits_of(bits.value(), 5, 17) << 15
+    opcode | bits_of(bits.value(), 0, 5) << 7 | funct3 << 12 | bits_of(bits.value(), 5, 17) << 15
 }
 
 fn atomic(

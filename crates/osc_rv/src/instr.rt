@@ -107,23 +107,94 @@ pub enum Width {
 /// the bits that order an atomic access.
 #[derive(Clone, Copy, PartialEq, Eq, Debug)]
 pub enum Instr {
-    Upper { op: UpperOp, rd: Field<5>, imm: Field<20> },
-    Jal { rd: Field<5>, half: Field<20> },
-    Jalr { rd: Field<5>, rs1: Field<5>, imm: Field<12> },
-    Branch { kind: BranchKind, rs1: Field<5>, rs2: Field<5>, half: Field<12> },
-    Load { kind: LoadKind, rd: Field<5>, rs1: Field<5>, imm: Field<12> },
-    Store { kind: StoreKind, rs1: Field<5>, rs2: Field<5>, imm: Field<12> },
-    Imm { op: ImmOp, rd: Field<5>, rs1: Field<5>, imm: Field<12> },
-    Shift { op: ShiftOp, rd: Field<5>, rs1: Field<5>, amount: Field<6> },
-    ShiftW { op: ShiftOp, rd: Field<5>, rs1: Field<5>, amount: Field<5> },
-    Op { op: RegOp, rd: Field<5>, rs1: Field<5>, rs2: Field<5> },
+    Upper {
+        op: UpperOp,
+        rd: Field<5>,
+        imm: Field<20>,
+    },
+    Jal {
+        rd: Field<5>,
+        half: Field<20>,
+    },
+    Jalr {
+        rd: Field<5>,
+        rs1: Field<5>,
+        imm: Field<12>,
+    },
+    Branch {
+        kind: BranchKind,
+        rs1: Field<5>,
+        rs2: Field<5>,
+        half: Field<12>,
+    },
+    Load {
+        kind: LoadKind,
+        rd: Field<5>,
+        rs1: Field<5>,
+        imm: Field<12>,
+    },
+    Store {
+        kind: StoreKind,
+        rs1: Field<5>,
+        rs2: Field<5>,
+        imm: Field<12>,
+    },
+    Imm {
+        op: ImmOp,
+        rd: Field<5>,
+        rs1: Field<5>,
+        imm: Field<12>,
+    },
+    Shift {
+        op: ShiftOp,
+        rd: Field<5>,
+        rs1: Field<5>,
+        amount: Field<6>,
+    },
+    ShiftW {
+        op: ShiftOp,
+        rd: Field<5>,
+        rs1: Field<5>,
+        amount: Field<5>,
+    },
+    Op {
+        op: RegOp,
+        rd: Field<5>,
+        rs1: Field<5>,
+        rs2: Field<5>,
+    },
     /// `bits` are the word's bits 31 to 15 and then 11 to 7, which the manual leaves free.
-    Fence { bits: Field<22> },
+    Fence {
+        bits: Field<22>,
+    },
     /// `bits` as in `Fence`.
-    FenceI { bits: Field<22> },
+    FenceI {
+        bits: Field<22>,
+    },
     Ecall,
     Ebreak,
-    Amo { op: AmoOp, width: Width, rd: Field<5>, rs1: Field<5>, rs2: Field<5>, aq: bool, rl: bool },
-    Lr { width: Width, rd: Field<5>, rs1: Field<5>, aq: bool, rl: bool },
-    Sc { width: Width, rd: Field<5>, rs1: Field<5>, rs2: Field<5>, aq: bool, rl: bool },
+    Amo {
+        op: AmoOp,
+        width: Width,
+        rd: Field<5>,
+        rs1: Field<5>,
+        rs2: Field<5>,
+        aq: bool,
+        rl: bool,
+    },
+    Lr {
+        width: Width,
+        rd: Field<5>,
+        rs1: Field<5>,
+        aq: bool,
+        rl: bool,
+    },
+    Sc {
+        width: Width,
+        rd: Field<5>,
+        rs1: Field<5>,
+        rs2: Field<5>,
+        aq: bool,
+        rl: bool,
+    },
 }

@@ -17,3 +17,6 @@ pub use field::Field;
 pub use instr::{
     AmoOp, BranchKind, ImmOp, Instr, LoadKind, RegOp, ShiftOp, StoreKind, UpperOp, Width,
 };
+
+#[cfg(test)]
+mod tests;
