@@ -42,23 +42,30 @@ impl<const N: u32> Field<N> {
         self.value
     }
 
+    /// The field that holds `value`, which is known to fit.
+    pub(crate) fn holding(value: u32) -> Field<N>
+        requires { value < 2 ^ N }
+        ensures { result ≡ value }
+    {
+        Field { value }
+    }
+
     /// The `N` bits of `word` from bit `low` on.
     pub(crate) fn of_word(word: u32, low: u32) -> Field<N>
         requires { (low < 32) × (N < 32) }
         ensures { result ≡ bits low N word }
     {
         Field {
-            value: (word >> low) % (1 << N),
+            value: bits_of(word, low, N),
         }
     }
+}
 
-    /// The field with the bits of `self` above those of `low`.
-    pub(crate) fn join<const L: u32, const M: u32>(self, low: Field<L>) -> Field<M>
-        requires { (N + L ≡ M) × (L < 32) × (M ≤ 32) }
-        ensures { result ≡ self.entry * 2 ^ L + low.entry }
-    {
-        Field {
-            value: (self.value << L) | low.value,
-        }
-    }
+/// The bits of `word` from bit `low` on, `count` of them.
+pub(crate) fn bits_of(word: u32, low: u32, count: u32) -> u32
+    requires { (low < 32) × (count < 32) }
+    ensures number { result ≡ bits low count word }
+    ensures range { result < 2 ^ count }
+{
+    (word >> low) % (1 << count)
 }
