@@ -9,29 +9,29 @@ use Rattle.osc_sv39.specs.declared.entries.Access.{Access}
 use Rattle.osc_sv39.specs.declared.entries.Mapping.{Mapping}
 use Rattle.osc_sv39.specs.Entries.{entry_of, is_allowed}
 
--- the piece that a page lies in: 512 pieces of a level are one of the next, and a page is one of level 0
+-- the piece that holds a page: 512 pieces of a level are one of the next, and a page is one of level 0
 abbrev pub piece : ℕ → ℕ → ℕ
 piece zero page = page
 piece (suc level) page = piece level page / 512
 
--- all bits from the top one of the page numbers on are equal
+-- a page whose addresses are canonical: all bits from the top one of the page numbers on are equal
 abbrev pub is_canonical : ℕ → ℕ → Bool
-is_canonical levels address =
-    (address / 2 ^ (9 * levels + 11) == 0) || (address / 2 ^ (9 * levels + 11) == 2 ^ (53 - 9 * levels) - 1)
+is_canonical levels page =
+    (page / 2 ^ (9 * levels - 1) == 0) || (page / 2 ^ (9 * levels - 1) == 2 ^ (53 - 9 * levels) - 1)
 
--- the page of an address, within the range of the tables
-abbrev pub page_of : ℕ → ℕ → ℕ
-page_of levels address = address / 4096 % 512 ^ levels
+-- the number of a page in the range of the tables: its numbers VPN, joined
+abbrev pub number_of : ℕ → ℕ → ℕ
+number_of levels page = page % 512 ^ levels
 
--- the numbers VPN of a page, from the topmost level down
+-- the numbers VPN from the topmost level down
 abbrev pub numbers_of : ℕ → ℕ → List ℕ
-numbers_of zero page = []
-numbers_of (suc level) page = piece level page % 512 ∷ numbers_of level page
+numbers_of zero number = []
+numbers_of (suc level) number = piece level number % 512 ∷ numbers_of level number
 
 -- the numbers VPN of an address
 abbrev pub page_numbers : ℕ → ℕ → Option (List ℕ)
 page_numbers levels address =
-    if is_canonical levels address then Some (numbers_of levels (page_of levels address)) else None
+    if is_canonical levels (address / 4096) then Some (numbers_of levels (number_of levels (address / 4096))) else None
 
 abbrev pub word_at : List ℕ → ℕ → ℕ → ℕ
 word_at words frame index = slice_index words (frame * 512 + index)
@@ -39,9 +39,9 @@ word_at words frame index = slice_index words (frame * 512 + index)
 abbrev pub put_word : List ℕ → ℕ → ℕ → ℕ → List ℕ
 put_word words frame index value = slice_set words (frame * 512 + index) value
 
--- the entry that stands in a table of this level for a page
+-- the entry that stands in a table of this level for a page of this number
 abbrev pub entry_at : ℕ → List ℕ → ℕ → ℕ → PteEntry
-entry_at level words table page = entry_of (word_at words table (piece level page % 512))
+entry_at level words table number = entry_of (word_at words table (piece level number % 512))
 
 -- what an entry of level 0 maps
 abbrev pub leaf_of : PteEntry → Option Mapping
@@ -57,11 +57,11 @@ through (Table frame) on = on frame
 through (Leaf frame bits) on = None
 through Reserved on = None
 
--- the mapping of a page, from a table of this level on
-abbrev pub walk_from : ℕ → List ℕ → ℕ → ℕ → Option Mapping
-walk_from zero words table page = leaf_of (entry_at 0 words table page)
-walk_from (suc level) words table page =
-    through (entry_at (suc level) words table page) (λ frame. walk_from level words frame page)
+-- the mapping of the page of this number, from a table of this level on
+unfoldable pub walk_from : ℕ → List ℕ → ℕ → ℕ → Option Mapping
+walk_from zero words table number = leaf_of (entry_at 0 words table number)
+walk_from (suc level) words table number =
+    through (entry_at (suc level) words table number) (λ frame. walk_from level words frame number)
 
 -- the frame of a mapping, where it allows the access
 abbrev pub frame_allowed : Access → Option Mapping → Option ℕ
@@ -71,5 +71,6 @@ frame_allowed access (Some mapping) = if is_allowed mapping.bits.0 access then S
 -- the frame that an access to an address reaches
 abbrev pub walk : List ℕ → ℕ → ℕ → ℕ → Access → Option ℕ
 walk words root levels address access =
-    if is_canonical levels address then frame_allowed access (walk_from (levels - 1) words root (page_of levels address))
+    if is_canonical levels (address / 4096)
+    then frame_allowed access (walk_from (levels - 1) words root (number_of levels (address / 4096)))
     else None
