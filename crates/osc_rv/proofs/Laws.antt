@@ -1,12 +1,12 @@
 -- The round trips between words and instructions, kind by kind and then whole.
-use Rattle.std.proofs.Common.{◌≡◌, ℕ, ◌+◌, ◌*◌, ◌^◌, ◌<◌, ◌==◌, ◌&&◌, ◌∙◌, Bool, true, false, cond, Option, None, Some, IfSome, List, [], ◌∷◌, refl, sym, arith}
+use Rattle.std.proofs.Common.{◌≡◌, ℕ, ◌+◌, ◌*◌, ◌^◌, ◌<◌, ◌==◌, ◌∙◌, Bool, true, cond, Option, None, Some, IfSome, List, [], ◌∷◌, refl, sym, arith}
 use Rattle.std.specs.List.{find}
 use Rattle.std.specs.Option.{option_map, option_and_then, option_or}
 use Rattle.std.proofs.lemmas.Bool.{cond_both, eqb-true, and_parts}
 use Rattle.osc_rv.specs.Bits.{bits}
 use Rattle.osc_rv.specs.Codes.{upper_opcode, branch_funct3, branch_kinds, load_funct3, load_kinds, store_funct3, store_kinds, imm_opcode, imm_funct3, imm_ops, shift_funct3, shift_funct6, shift_ops, reg_opcode, reg_funct3, reg_funct7, reg_ops, amo_funct5, amo_ops, width_funct3, widths}
-use Rattle.osc_rv.specs.Formats.{s_imm, b_half, j_half, fence_bits}
-use Rattle.osc_rv.specs.Instr.{instr_of, word_of, FieldsFit, jalr_of, branch_of, load_of, store_of, imm_of, shift_of, shift_w_of, reg_of, fence_of, system_of, atomic_of, aq_of, rl_of}
+use Rattle.osc_rv.specs.Formats.{s_imm, b_half}
+use Rattle.osc_rv.specs.Instr.{instr_of, word_of, FieldsFit, branch_of, load_of, store_of, imm_of, shift_of, shift_w_of, reg_of, fence_of, atomic_of, aq_of, rl_of}
 use Rattle.osc_rv.specs.declared.instr.UpperOp.{UpperOp}
 use Rattle.osc_rv.specs.declared.instr.BranchKind.{BranchKind}
 use Rattle.osc_rv.specs.declared.instr.LoadKind.{LoadKind}

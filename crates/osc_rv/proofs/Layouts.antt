@@ -1,5 +1,5 @@
 -- Each format both ways: the fields of its word, and the word of its fields.
-use Rattle.std.proofs.Common.{◌≡◌, ℕ, ◌+◌, ◌*◌, ◌^◌, ◌<◌, ◌==◌, ◌∙◌, Bool, true, false, sym, refl, ap, arith}
+use Rattle.std.proofs.Common.{◌≡◌, ℕ, ◌+◌, ◌*◌, ◌^◌, ◌<◌, ◌==◌, ◌∙◌, Bool, true, false, sym, refl, arith}
 use Rattle.std.proofs.lemmas.Bool.{cond_both, eqb-true, eqb-false}
 use Rattle.osc_rv.specs.Bits.{bits}
 use Rattle.osc_rv.specs.Codes.{width_funct3}

@@ -8,6 +8,7 @@ use Rattle.osc_rv.specs.Codes.{upper_opcode, branch_funct3, branch_at, load_func
 use Rattle.osc_rv.specs.Formats.{r_word, i_word, s_word, b_word, u_word, j_word, fence_word, s_imm, b_half, j_half, fence_bits}
 use Rattle.osc_rv.specs.declared.instr.Instr.{Instr}
 use Rattle.osc_rv.specs.declared.instr.Instr.TheVariants.{Upper, Jal, Jalr, Branch, Load, Store, Imm, Shift, ShiftW, Op, Fence, FenceI, Ecall, Ebreak, Amo, Lr, Sc}
+use Rattle.osc_rv.specs.declared.instr.UpperOp.{UpperOp}
 use Rattle.osc_rv.specs.declared.instr.UpperOp.TheVariants.{Lui, Auipc}
 use Rattle.osc_rv.specs.declared.instr.Width.{Width}
 
@@ -34,6 +35,12 @@ i_imm word = bits 20 12 word
 
 abbrev pub u_imm : ℕ → ℕ
 u_imm word = bits 12 20 word
+
+abbrev pub upper_of : UpperOp → ℕ → Instr
+upper_of op word = Upper op (rd_of word) (u_imm word)
+
+abbrev pub jal_of : ℕ → Instr
+jal_of word = Jal (rd_of word) (j_half word)
 
 abbrev pub jalr_of : ℕ → Option Instr
 jalr_of word = if funct3_of word == 0 then Some (Jalr (rd_of word) (rs1_of word) (i_imm word)) else None
@@ -99,9 +106,9 @@ atomic_of word width =
 -- the instruction of a word: None where the listings have no such word
 unfoldable pub instr_of : ℕ → Option Instr
 instr_of word =
-    if opcode_of word == 0x37 then Some (Upper Lui (rd_of word) (u_imm word))
-    else if opcode_of word == 0x17 then Some (Upper Auipc (rd_of word) (u_imm word))
-    else if opcode_of word == 0x6F then Some (Jal (rd_of word) (j_half word))
+    if opcode_of word == 0x37 then Some (upper_of Lui word)
+    else if opcode_of word == 0x17 then Some (upper_of Auipc word)
+    else if opcode_of word == 0x6F then Some (jal_of word)
     else if opcode_of word == 0x67 then jalr_of word
     else if opcode_of word == 0x63 then branch_of word
     else if opcode_of word == 0x03 then load_of word

@@ -2,7 +2,7 @@ ghost use Rattle.std.specs.Prelude.{◌≡◌, ◌<◌, IfSome};
 ghost use Rattle.std.specs.Option.{option_or, option_and_then};
 ghost use Rattle.osc_rv.specs.Codes.{width_at};
 ghost use Rattle.osc_rv.specs.Formats.{s_imm, b_half, j_half, fence_bits};
-ghost use Rattle.osc_rv.specs.Instr.{instr_of, word_of, opcode_of, jalr_of, branch_of, load_of, store_of, imm_of, shift_of, shift_w_of, reg_of, fence_of, system_of, atomic_of, funct3_of};
+ghost use Rattle.osc_rv.specs.Instr.{instr_of, word_of, opcode_of, upper_of, jal_of, jalr_of, branch_of, load_of, store_of, imm_of, shift_of, shift_w_of, reg_of, fence_of, system_of, atomic_of, funct3_of};
 
 use crate::codes::{
     AMO, AUIPC, BRANCH, EBREAK, ECALL, JAL, JALR, LOAD, LR, LUI, MISC_MEM, OP, OP_32, OP_IMM,
@@ -28,33 +28,21 @@ fn decode_at(opcode: u32, word: u32) -> Option<Instr>
     requires { opcode ≡ opcode_of word }
     ensures { result ≡ instr_of word }
 {
-    let rd: Field<5> = Field::of_word(word, 7);
     match opcode {
-        LUI => Some(Instr::Upper {
-            op: UpperOp::Lui,
-            rd,
-            imm: Field::of_word(word, 12),
-        }),
-        AUIPC => Some(Instr::Upper {
-            op: UpperOp::Auipc,
-            rd,
-            imm: Field::of_word(word, 12),
-        }),
-        JAL => Some(Instr::Jal {
-            rd,
-            half: jump_half(word),
-        }),
+        LUI => Some(upper(UpperOp::Lui, word)),
+        AUIPC => Some(upper(UpperOp::Auipc, word)),
+        JAL => Some(jal(word)),
         JALR => jalr(word),
         BRANCH => branch(word),
         LOAD => load(word),
         STORE => store(word),
-        OP_IMM => imm(OP_IMM, word).or(shift(word)),
-        OP_IMM_32 => imm(OP_IMM_32, word).or(shift_w(word)),
+        OP_IMM => imm(OP_IMM, word).or_else(|| shift(word)),
+        OP_IMM_32 => imm(OP_IMM_32, word).or_else(|| shift_w(word)),
         OP => op(OP, word),
         OP_32 => op(OP_32, word),
         MISC_MEM => fence(word),
         SYSTEM => system(word),
-        AMO => atomic(Width::at(bits_of(word, 12, 3))?, word),
+        AMO => atomic(Width::at(funct3(word))?, word),
         _ => None,
     }
 }
@@ -63,6 +51,25 @@ fn funct3(word: u32) -> u32
     ensures { result ≡ funct3_of word }
 {
     bits_of(word, 12, 3)
+}
+
+fn upper(op: UpperOp, word: u32) -> Instr
+    ensures { result ≡ upper_of op word }
+{
+    Instr::Upper {
+        op,
+        rd: Field::of_word(word, 7),
+        imm: Field::of_word(word, 12),
+    }
+}
+
+fn jal(word: u32) -> Instr
+    ensures { result ≡ jal_of word }
+{
+    Instr::Jal {
+        rd: Field::of_word(word, 7),
+        half: jump_half(word),
+    }
 }
 
 fn jalr(word: u32) -> Option<Instr>

@@ -1,4 +1,4 @@
-use Rattle.std.proofs.Common.{arith, ◌≡◌, ◌<◌, ◌≤◌, ◌^◌, true, false}
+use Rattle.std.proofs.Common.{arith, ◌<◌, ◌^◌}
 use Rattle.osc_rv.proofs.Runs.{wide_enough}
 use Rattle.osc_rv.proofs.field.Field.new.Goals as goal
 
