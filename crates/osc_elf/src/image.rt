@@ -3,7 +3,13 @@
 ghost use Rattle.std.specs.Prelude.{◌≡◌, ◌≤◌, ◌+◌, ◌*◌};
 ghost use Rattle.osc_image.specs.Image as image;
 
+use osc_sv39::PteBits;
 use std::marker::Model;
+
+/// The permissions of code and of data.
+const READ_EXECUTE: PteBits = PteBits(10);
+
+const READ_WRITE: PteBits = PteBits(6);
 
 /// The bytes of a page.
 const PAGE: u64 = 4096;
@@ -27,7 +33,8 @@ impl Model for Segment {
 }
 
 impl Segment {
-    ghost use Rattle.std.specs.Prelude.{◌≡◌, ◌≤◌, vec_len};
+    ghost use Rattle.std.specs.Prelude.{◌≡◌, ◌≤◌, ◌*◌, ◌&&◌, nat_le, nat_lt, vec_len};
+    ghost use Rattle.osc_image.specs.Image as image;
 
     /// The bytes from `start` on.
     pub fn new(start: u64, bytes: Vec<u8>) -> Segment
@@ -58,6 +65,13 @@ impl Segment {
         ensures few { result ≤ 256 }
     {
         (self.bytes.len() as u64).div_ceil(PAGE)
+    }
+
+    /// Whether a page, an address divided by 4096, is one of its pages.
+    fn has_page(&self, page: u64) -> bool
+        ensures { result ≡ (nat_le self.now.start (4096 * page) && nat_lt (4096 * page) (image.page_end self.now)) }
+    {
+        self.start <= PAGE.saturating_mul(page) && PAGE.saturating_mul(page) < self.page_end()
     }
 
     /// The byte at an address; None exactly where the address lies on none of its pages. After the
@@ -109,12 +123,26 @@ impl Image {
         self.entry
     }
 
-    /// Whether a page, an address divided by 4096, belongs to the code.
+    /// What a page, an address divided by 4096, allows; None exactly where it is not mapped.
+    #[tactic(auto, unfolding(osc_image::specs::Image::bits_at))]
+    pub fn page_bits(&self, page: u64) -> Option<PteBits>
+        ensures { result ≡ image.bits_at self.now page }
+    {
+        if self.is_code(page) {
+            return Some(READ_EXECUTE);
+        }
+        match &self.writable {
+            Some(segment) if segment.has_page(page) => Some(READ_WRITE),
+            _ => None,
+        }
+    }
+
+    /// Whether a page belongs to the code.
     #[tactic(auto, unfolding(osc_image::specs::Image::is_code))]
-    pub fn is_code(&self, page: u64) -> bool
+    fn is_code(&self, page: u64) -> bool
         ensures { result ≡ image.is_code self.now page }
     {
-        self.code.start <= PAGE.saturating_mul(page) && PAGE.saturating_mul(page) < self.code.page_end()
+        self.code.has_page(page)
     }
 
     /// The byte at an address; None exactly where its page is not mapped.

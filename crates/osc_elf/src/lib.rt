@@ -8,4 +8,3 @@ mod reader;
 pub use image::Image;
 pub use osc_image::ImageFault;
 pub use reader::read_image;
-

@@ -4,11 +4,10 @@ ghost use Rattle.std.specs.Prelude.{◌≡◌, ◌≤◌, ◌+◌, length, true}
 ghost use Rattle.osc_image.specs.Form as form;
 ghost use Rattle.osc_image.specs.Reading.{Gives};
 
-use std::alloc::Global;
-
 use crate::fields::{u16_at, u32_at, u64_at};
 use crate::image::{Image, Segment};
 use osc_image::ImageFault;
+use std::alloc::Global;
 
 /// The longest file that is read, in bytes.
 const LONGEST_FILE: usize = 16_777_216;
@@ -23,9 +22,13 @@ const PROGRAM_HEADER: usize = 56;
 const IDENTITY: [u8; 7] = [0x7f, b'E', b'L', b'F', 2, 1, 1];
 
 const ET_EXEC: u16 = 2;
+
 const EM_RISCV: u16 = 243;
+
 const PT_LOAD: u32 = 1;
+
 const CODE_FLAGS: u32 = 5;
+
 const DATA_FLAGS: u32 = 6;
 
 /// The most bytes of a segment.
@@ -33,6 +36,7 @@ const LONGEST_SEGMENT: u64 = 1_048_576;
 
 /// The first and the last address of image pages, the last not included.
 const IMAGE_START: u64 = 0x1_0000;
+
 const IMAGE_END: u64 = 0x1_0000_0000;
 
 #[tactic(auto, unfolding(osc_image::specs::Form::has_identity))]
@@ -83,7 +87,9 @@ fn is_loaded(file: &[u8], flags: u32, at: usize) -> bool
     ensures inside { result ≡ true → at + 56 ≤ length file.now }
     ensures value { result ≡ form.is_loaded file.now flags at }
 {
-    at + PROGRAM_HEADER <= file.len() && u32_at(file, at) == PT_LOAD && u32_at(file, at + 4) == flags
+    at + PROGRAM_HEADER <= file.len()
+        && u32_at(file, at) == PT_LOAD
+        && u32_at(file, at + 4) == flags
 }
 
 #[tactic(auto, unfolding(osc_image::specs::Form::has_bytes))]

@@ -1,5 +1,6 @@
 -- What a loaded image is: an entry address and pages of bytes. ELF-64 Object File Format, "Program
 -- Header Table": a segment's bytes stand from its virtual address on. Pages have 4096 bytes.
+use Rattle.osc_sv39.specs.declared.flags.PteBits.{PteBits}
 use Rattle.std.specs.Prelude.{ℕ, ◌+◌, ◌-◌, ◌*◌, ◌/◌, Bool, ◌&&◌, nat_lt, nat_le, if◌then◌else◌, List, length, slice_index, Option, Some, None}
 
 -- bytes that stand from an address on
@@ -44,6 +45,22 @@ byte_at image address = or_else (byte_in image.code address) (byte_in_writable i
 -- whether a page, an address divided by 4096, belongs to the code
 unfoldable pub is_code : Image → ℕ → Bool
 is_code image page = nat_le image.code.start (4096 * page) && nat_lt (4096 * page) (page_end image.code)
+
+-- permissions of a page: R is bit 1, W bit 2 and X bit 3, as in a page table entry
+abbrev pub read_execute : PteBits
+read_execute = record { 0 = 10 }
+
+abbrev pub read_write : PteBits
+read_write = record { 0 = 6 }
+
+abbrev pub bits_in_writable : Option Segment → ℕ → Option PteBits
+bits_in_writable None page = None
+bits_in_writable (Some segment) page =
+    if nat_le segment.start (4096 * page) && nat_lt (4096 * page) (page_end segment) then Some read_write else None
+
+-- what a page, an address divided by 4096, allows, where it is mapped
+unfoldable pub bits_at : Image → ℕ → Option PteBits
+bits_at image page = if is_code image page then Some read_execute else bits_in_writable image.writable page
 
 abbrev pub writable_pages : Option Segment → ℕ
 writable_pages None = 0

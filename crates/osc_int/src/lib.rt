@@ -6,5 +6,6 @@ mod numbers;
 mod operation;
 mod step;
 
+pub use numbers::extended;
 pub use osc_isa::IntDone;
 pub use step::int_step;

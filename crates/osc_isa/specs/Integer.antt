@@ -21,7 +21,7 @@ use Rattle.osc_rv.specs.declared.instr.RegOp.TheVariants.{Add, Sub, Sll, Slt, Sl
 use Rattle.osc_word.specs.Registers.{register}
 use Rattle.osc_isa.specs.declared.IntDone.{IntDone}
 use Rattle.osc_isa.specs.declared.IntDone.TheVariants as done
-use Rattle.osc_isa.specs.Numbers.{wrapped, extended, word, signed, signed_shift, one_if, number}
+use Rattle.osc_isa.specs.Numbers.{wrapped, extended, word, signed, signed_shift, one_if}
 
 -- the address of the instruction after the one at pc
 abbrev pub next : ℕ → ℕ
@@ -85,15 +85,15 @@ load_width Lbu = 1
 load_width Lhu = 2
 load_width Lwu = 4
 
--- what a load of these bytes puts into its register
-abbrev pub loaded : LoadKind → List ℕ → ℕ
-loaded Lb bytes = extended 8 (number bytes)
-loaded Lh bytes = extended 16 (number bytes)
-loaded Lw bytes = extended 32 (number bytes)
-loaded Ld bytes = number bytes
-loaded Lbu bytes = number bytes
-loaded Lhu bytes = number bytes
-loaded Lwu bytes = number bytes
+-- what a load puts into its register, by the number in its bytes
+abbrev pub loaded : LoadKind → ℕ → ℕ
+loaded Lb number = extended 8 number
+loaded Lh number = extended 16 number
+loaded Lw number = extended 32 number
+loaded Ld number = number
+loaded Lbu number = number
+loaded Lhu number = number
+loaded Lwu number = number
 
 -- the bytes of a store
 abbrev pub store_width : StoreKind → ℕ

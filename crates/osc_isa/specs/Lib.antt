@@ -3,3 +3,4 @@ pub use Rattle.osc_rv.specs.Instr
 pub use Rattle.osc_word.specs.Registers
 pub mod Numbers
 pub mod Integer
+pub mod Traps

@@ -1,7 +1,7 @@
 -- Numbers of 64 bits, as the RISC-V Unprivileged manual keeps them in registers: a sum wraps round, a
 -- register read as a signed number is in two's complement, and a field that is extended by its sign has
 -- its highest bit in all bits above ("Immediate Encoding Variants").
-use Rattle.std.specs.Prelude.{ℕ, ◌+◌, ◌-◌, ◌*◌, ◌^◌, ◌%◌, nat_lt, Bool, if◌then◌else◌, List, [], ◌∷◌, ℤ}
+use Rattle.std.specs.Prelude.{ℕ, ◌+◌, ◌-◌, ◌^◌, ◌%◌, nat_lt, Bool, if◌then◌else◌, ℤ}
 use Rattle.std.specs.Int.{w64, cast_signed, cast_unsigned, int_shr}
 
 -- the low 64 bits
@@ -27,8 +27,3 @@ signed_shift number amount = cast_unsigned w64 (int_shr (signed number) amount)
 
 abbrev pub one_if : Bool → ℕ
 one_if test = if test then 1 else 0
-
--- the number in bytes, the lowest first
-abbrev pub number : List ℕ → ℕ
-number [] = 0
-number (byte ∷ bytes) = byte + 256 * number bytes

@@ -14,7 +14,7 @@ use Rattle.osc_top.specs.declared.outcome.Outcome.{Outcome}
 use Rattle.osc_top.specs.declared.outcome.Outcome.TheVariants.{UnknownWords, NotBuilt, SourceFault, NoMemory, Spent, Fault, Exit}
 use Rattle.osc_top.specs.declared.outcome.Refusal.{Refusal}
 use Rattle.osc_top.specs.declared.outcome.Refusal.TheVariants as refusal
-use Rattle.osc_top.specs.Flat.{Progress, Running, Exited, Faulted, flat}
+use Rattle.osc_flat.specs.Flat.{Progress, Running, Exited, Faulted, flat}
 use Rattle.osc_top.specs.Due.{Due, due_of_progress, due_of_image, due_of, budget, HasGuestStatus}
 use Rattle.osc_top.specs.Answer.{IsRead, Cause, Decided, FromFile, longest_read}
 use Rattle.osc_top.specs.Loading.{IsLoaded}

@@ -1,4 +1,2 @@
-pub mod Bytes
-pub mod Runs
 pub mod Sinks
 pub mod Files

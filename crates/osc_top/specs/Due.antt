@@ -5,7 +5,7 @@ use Rattle.osc_image.specs.Image.{Image}
 use Rattle.osc_image.specs.Form.{image_of}
 use Rattle.osc_top.specs.declared.outcome.Outcome.{Outcome}
 use Rattle.osc_top.specs.declared.outcome.Outcome.TheVariants.{UnknownWords, NotBuilt, SourceFault, NoMemory, Spent, Fault, Exit}
-use Rattle.osc_top.specs.Flat.{Progress, Running, Exited, Faulted, flat}
+use Rattle.osc_flat.specs.Flat.{Progress, Running, Exited, Faulted, flat}
 
 -- the exit status of the program
 abbrev pub status_of : Outcome → ℕ

@@ -1,5 +1,5 @@
-pub mod Flat
-pub mod Ran
+pub use Rattle.osc_flat.specs.Flat
+pub use Rattle.osc_flat.specs.Memory
 pub mod Due
 pub mod Answer
 pub mod Loading

@@ -22,7 +22,8 @@ fn write_all<K: Sink>(sink: &mut K, text: &[u8]) -> Result<(), Failed>
 {
     let mut at = 0;
     while at < text.len() {
-        at += sink.write(&text[at..])?;
+        let taken = sink.write(&text[at..])?;
+        at += taken;
     }
     Ok(())
 }

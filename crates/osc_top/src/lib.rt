@@ -3,7 +3,6 @@
 #![tactic(auto)]
 
 mod delivery;
-mod flat;
 mod loading;
 mod outcome;
 mod top;

@@ -7,10 +7,10 @@ ghost use Rattle.osc_top.specs.Answer.{Decided, Answers};
 ghost use Rattle.osc_top.specs.Deciding.{Yields, Runs};
 
 use crate::delivery::deliver;
-use crate::flat::{Hart, Ran};
 use crate::loading::load;
 use crate::outcome::{Outcome, Refusal, Status};
 use osc_elf::read_image;
+use osc_flat::{Hart, Ran};
 use osc_outside::{Sink, Source};
 use std::alloc::Global;
 use std::marker::Model;
@@ -48,13 +48,13 @@ impl Decision {
 }
 
 /// Runs a file. A refusal is `Image` exactly where the file is of no form that is taken, or `Memory`.
-#[tactic(auto, unfolding(crate::specs::Due::due_of, crate::specs::Flat::flat))]
+#[tactic(auto, unfolding(crate::specs::Due::due_of, osc_flat::specs::Flat::flat))]
 fn run_file(alloc: Global, file: &[u8]) -> Result<Decision, Refusal>
     ensures { Yields result (due_of file.now) }
 {
     let image = read_image(alloc, file)?;
     let mut hart = Hart::start(alloc, &image)?;
-    match hart.run(&image, BUDGET) {
+    match hart.run(BUDGET) {
         Ran::On => Ok(Decision::bare(alloc, Outcome::Spent)),
         Ran::Exit(status) => Ok(Decision {
             outcome: Outcome::Exit(status),

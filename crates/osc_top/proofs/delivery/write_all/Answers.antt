@@ -6,9 +6,9 @@ use Rattle.osc_top.proofs.delivery.write_all.Goals as goal
 pub loop-at-preserved : goal.loop-at-preserved
 loop-at-preserved g c =
     record {
-      within = omega (arith, c.in_ok-at.ensures.bound, length-drop {A = ℕ}, length-take {A = ℕ});
+      within = omega (arith, c.in_ok-taken.ensures.bound, length-drop {A = ℕ}, length-take {A = ℕ});
       sent =
-          Appends-take _ _ _ c.args.text.now c.loop-at.at c.in_ok-at.field-0 c.loop-at.invariant.sent
-          (rw take_rest at c.in_ok-at.ensures.bytes);
+          Appends-take _ _ _ c.args.text.now c.loop-at.at c.in_ok-taken.taken c.loop-at.invariant.sent
+          (rw take_rest at c.in_ok-taken.ensures.bytes);
       later = omega (arith, c.write.ensures.cause.later);
     }

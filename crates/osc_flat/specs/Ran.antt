@@ -1,8 +1,8 @@
 -- What the code's answer and hart say together of a run. This project's own.
 use Rattle.std.specs.Prelude.{ℕ, ◌<◌}
-use Rattle.osc_top.specs.declared.flat.Ran.{Ran}
-use Rattle.osc_top.specs.declared.flat.Ran.TheVariants.{On, Exit, Fault}
-use Rattle.osc_top.specs.Flat.{Hart, Progress, Running, Exited, Faulted}
+use Rattle.osc_flat.specs.declared.hart.Ran.{Ran}
+use Rattle.osc_flat.specs.declared.hart.Ran.TheVariants.{On, Exit, Fault}
+use Rattle.osc_flat.specs.Flat.{Hart, Progress, Running, Exited, Faulted}
 
 abbrev pub progress_of : Ran → Hart → Progress
 progress_of On hart = Running hart
