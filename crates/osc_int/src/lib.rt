@@ -8,3 +8,6 @@ mod step;
 
 pub use osc_isa::IntDone;
 pub use step::int_step;
+
+#[cfg(test)]
+mod tests;
