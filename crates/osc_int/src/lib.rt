@@ -9,3 +9,6 @@ mod step;
 pub use numbers::extended;
 pub use osc_isa::IntDone;
 pub use step::int_step;
+
+#[cfg(test)]
+mod tests;
