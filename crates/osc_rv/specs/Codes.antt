@@ -72,8 +72,13 @@ store_at funct3 = find (λ kind. store_funct3 kind == funct3) store_kinds
 
 -- opcodes OP-IMM and OP-IMM-32: opcode and funct3
 abbrev pub imm_opcode : ImmOp → ℕ
+imm_opcode Addi = 0x13
+imm_opcode Slti = 0x13
+imm_opcode Sltiu = 0x13
+imm_opcode Xori = 0x13
+imm_opcode Ori = 0x13
+imm_opcode Andi = 0x13
 imm_opcode Addiw = 0x1B
-imm_opcode _ = 0x13
 
 abbrev pub imm_funct3 : ImmOp → ℕ
 imm_funct3 Addi = 0
@@ -109,12 +114,21 @@ shift_at funct3 funct6 = find (λ op. (shift_funct3 op == funct3) && (shift_func
 
 -- opcodes OP and OP-32: opcode, funct3 and funct7
 abbrev pub reg_opcode : RegOp → ℕ
+reg_opcode Add = 0x33
+reg_opcode Sub = 0x33
+reg_opcode Sll = 0x33
+reg_opcode Slt = 0x33
+reg_opcode Sltu = 0x33
+reg_opcode Xor = 0x33
+reg_opcode Srl = 0x33
+reg_opcode Sra = 0x33
+reg_opcode Or = 0x33
+reg_opcode And = 0x33
 reg_opcode Addw = 0x3B
 reg_opcode Subw = 0x3B
 reg_opcode Sllw = 0x3B
 reg_opcode Srlw = 0x3B
 reg_opcode Sraw = 0x3B
-reg_opcode _ = 0x33
 
 abbrev pub reg_funct3 : RegOp → ℕ
 reg_funct3 Add = 0
@@ -134,11 +148,21 @@ reg_funct3 Srlw = 5
 reg_funct3 Sraw = 5
 
 abbrev pub reg_funct7 : RegOp → ℕ
+reg_funct7 Add = 0
 reg_funct7 Sub = 0x20
+reg_funct7 Sll = 0
+reg_funct7 Slt = 0
+reg_funct7 Sltu = 0
+reg_funct7 Xor = 0
+reg_funct7 Srl = 0
 reg_funct7 Sra = 0x20
+reg_funct7 Or = 0
+reg_funct7 And = 0
+reg_funct7 Addw = 0
 reg_funct7 Subw = 0x20
+reg_funct7 Sllw = 0
+reg_funct7 Srlw = 0
 reg_funct7 Sraw = 0x20
-reg_funct7 _ = 0
 
 abbrev pub reg_ops : List RegOp
 reg_ops = Add ∷ Sub ∷ Sll ∷ Slt ∷ Sltu ∷ Xor ∷ Srl ∷ Sra ∷ Or ∷ And ∷ Addw ∷ Subw ∷ Sllw ∷ Srlw ∷ Sraw ∷ []

@@ -143,8 +143,9 @@ impl ImmOp {
         ensures { result ≡ imm_opcode self }
     {
         match self {
+            ImmOp::Addi | ImmOp::Slti | ImmOp::Sltiu | ImmOp::Xori | ImmOp::Ori | ImmOp::Andi =>
+                OP_IMM,
             ImmOp::Addiw => OP_IMM_32,
-            _ => OP_IMM,
         }
     }
 
@@ -214,8 +215,17 @@ impl RegOp {
         ensures { result ≡ reg_opcode self }
     {
         match self {
+            RegOp::Add
+            | RegOp::Sub
+            | RegOp::Sll
+            | RegOp::Slt
+            | RegOp::Sltu
+            | RegOp::Xor
+            | RegOp::Srl
+            | RegOp::Sra
+            | RegOp::Or
+            | RegOp::And => OP,
             RegOp::Addw | RegOp::Subw | RegOp::Sllw | RegOp::Srlw | RegOp::Sraw => OP_32,
-            _ => OP,
         }
     }
 
@@ -238,8 +248,18 @@ impl RegOp {
         ensures { result ≡ reg_funct7 self }
     {
         match self {
+            RegOp::Add
+            | RegOp::Sll
+            | RegOp::Slt
+            | RegOp::Sltu
+            | RegOp::Xor
+            | RegOp::Srl
+            | RegOp::Or
+            | RegOp::And
+            | RegOp::Addw
+            | RegOp::Sllw
+            | RegOp::Srlw => 0,
             RegOp::Sub | RegOp::Sra | RegOp::Subw | RegOp::Sraw => 0x20,
-            _ => 0,
         }
     }
 

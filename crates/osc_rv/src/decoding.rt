@@ -13,8 +13,9 @@ use crate::instr::{
     AmoOp, BranchKind, ImmOp, Instr, LoadKind, RegOp, ShiftOp, StoreKind, UpperOp, Width,
 };
 
-/// The instruction of `word`; None where the manual's listings of RV64IA and `fence.i` have no
-/// such word.
+/// The instruction of `word` by the RISC-V Unprivileged manual, "RV32/64G Instruction Set Listings"
+/// (RV32I, RV64I, Zifencei, RV32A, RV64A); None exactly where they have no such word. Whatever it
+/// reads, `encode` writes back.
 pub fn decode(word: u32) -> Option<Instr>
     ensures instr { result ≡ instr_of word }
     ensures written_back { IfSome result (λ instr. word_of instr ≡ word) }

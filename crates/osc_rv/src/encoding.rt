@@ -1,4 +1,5 @@
 ghost use Rattle.std.specs.Prelude.{◌≡◌, ◌<◌, ◌^◌, ◌+◌, ◌*◌};
+ghost use Rattle.osc_rv.specs.Codes.{shift_funct6};
 ghost use Rattle.osc_rv.specs.Formats.{r_word, i_word, s_word, b_word, u_word, j_word, fence_word};
 ghost use Rattle.osc_rv.specs.Instr.{word_of, instr_of, atomic_word, FieldsFit};
 
@@ -6,9 +7,9 @@ use crate::codes::{
     AMO, BRANCH, EBREAK, ECALL, JAL, JALR, LOAD, LR, MISC_MEM, OP_IMM, OP_IMM_32, SC, STORE,
 };
 use crate::field::{Field, bits_of};
-use crate::instr::{Instr, Width};
+use crate::instr::{Instr, ShiftOp, Width};
 
-/// The word of `instr`, which `decode` reads back.
+/// The word of `instr`, by the same listings as `decode`, which reads it back.
 pub fn encode(instr: &Instr) -> u32
     ensures word { result ≡ word_of instr.now }
     ensures read_back { instr_of result ≡ Some instr.now }
@@ -45,19 +46,19 @@ fn word(instr: &Instr) -> u32
             rd,
             rs1,
             amount,
-        } => {
-            let imm = Field::holding(amount.value() | op.funct6() << 6);
-            format_i(OP_IMM, rd, op.funct3(), rs1, imm)
-        }
+        } => format_i(OP_IMM, rd, op.funct3(), rs1, shift_imm(op, amount.value())),
         Instr::ShiftW {
             op,
             rd,
             rs1,
             amount,
-        } => {
-            let imm = Field::holding(amount.value() | op.funct6() << 6);
-            format_i(OP_IMM_32, rd, op.funct3(), rs1, imm)
-        }
+        } => format_i(
+            OP_IMM_32,
+            rd,
+            op.funct3(),
+            rs1,
+            shift_imm(op, amount.value()),
+        ),
         Instr::Op { op, rd, rs1, rs2 } => {
             format_r(op.opcode(), rd, op.funct3(), rs1, rs2, op.funct7())
         }
@@ -73,14 +74,14 @@ fn word(instr: &Instr) -> u32
             rs2,
             aq,
             rl,
-        } => { atomic(op.funct5(), width, rd, rs1, rs2, aq, rl) }
+        } => atomic(op.funct5(), width, rd, rs1, rs2, aq, rl),
         Instr::Lr {
             width,
             rd,
             rs1,
             aq,
             rl,
-        } => { atomic(LR, width, rd, rs1, Field::holding(0), aq, rl) }
+        } => atomic(LR, width, rd, rs1, Field::holding(0), aq, rl),
         Instr::Sc {
             width,
             rd,
@@ -90,6 +91,14 @@ fn word(instr: &Instr) -> u32
             rl,
         } => atomic(SC, width, rd, rs1, rs2, aq, rl),
     }
+}
+
+/// The amount of a shift, with the bits above it that tell the shifts apart.
+fn shift_imm(op: ShiftOp, amount: u32) -> Field<12>
+    requires { amount < 2 ^ 6 }
+    ensures { result ≡ amount + shift_funct6 op * 2 ^ 6 }
+{
+    Field::holding(amount | op.funct6() << 6)
 }
 
 fn format_r(

@@ -100,7 +100,8 @@ pub enum Width {
     D,
 }
 
-/// An instruction of RV64IA with `fence.i`, as the RISC-V Unprivileged manual lists them.
+/// An instruction of RV64IA with `fence.i`: the RISC-V Unprivileged manual, "Base Instruction
+/// Formats" and "RV32/64G Instruction Set Listings".
 ///
 /// Immediates and offsets are the unsigned bits of their field; what an instruction does extends
 /// them by the sign. `half` is an offset without its bit 0, which no word has. `aq` and `rl` are

@@ -2,7 +2,8 @@
 //!
 //! `Instr` has one variant for each format and kind of the RISC-V Unprivileged manual, with its
 //! registers and immediates as `Field`s, numbers that fit their place in the word. The listings
-//! of the manual stand once, in `specs/Codes.antt`, for both directions.
+//! of the manual stand once, in `specs/Codes.antt`, for both directions. Neither call takes memory
+//! or has a loop.
 #![tactic(auto)]
 
 mod codes;
