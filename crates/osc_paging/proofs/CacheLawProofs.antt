@@ -3,7 +3,7 @@ use Rattle.std.proofs.Common.{ℕ, zero, suc, ◌≡◌, ◌<◌, ◌==◌, Some
 use Rattle.std.proofs.lemmas.Bool.Decides.{nat_tests}
 use Rattle.std.proofs.lemmas.List.{length-set, get_or-replicate}
 use Rattle.osc_paging.specs.declared.CacheEntry.{CacheEntry}
-use Rattle.osc_paging.specs.Boxes.{slot_of, entry_in, seen_in}
+use Rattle.osc_paging.specs.Boxes.{slot_of, entry_in, seen_in, no_entries}
 use Rattle.osc_paging.specs.CacheLaws.{slots_after, latest_in, LookFindsLatest}
 
 -- what stands at a place after a write within the list
@@ -16,10 +16,12 @@ get_or-written (x ∷ xs) (suc i) (suc j) y d s = grind (arith, nat_tests, get_o
 
 -- there are always 32 slots
 length-slots_after : (fills : List CacheEntry) → length (slots_after fills) ≡ 32
+unfolding no_entries
 length-slots_after [] = refl
 length-slots_after (entry ∷ earlier) = length-set (slots_after earlier) (slot_of entry.page) _ ∙ length-slots_after earlier
 
 found : (fills : List CacheEntry) (slot : ℕ) → slot < 32 → entry_in (slots_after fills) slot ≡ latest_in slot fills
+unfolding no_entries
 found [] slot s = get_or-replicate 32 slot None None s
 found (entry ∷ earlier) slot s =
     let long = length-slots_after earlier in

@@ -13,7 +13,7 @@ use Rattle.osc_paging.specs.declared.Look.TheVariants.{Hit, Miss}
 abbrev pub slot_of : ℕ → ℕ
 slot_of page = page % 32
 
-abbrev pub no_entries : List (Option CacheEntry)
+unfoldable pub no_entries : List (Option CacheEntry)
 no_entries = replicate 32 None
 
 abbrev pub entry_in : List (Option CacheEntry) → ℕ → Option CacheEntry
