@@ -94,7 +94,7 @@ unfoldable pub image_of : List ℕ → Option Image
 image_of file =
     if has_header file
     then
-      (if field 2 56 file == 1
-      then code_image (field 8 24 file) (segment_of file code_flags 64)
-      else two_images (field 8 24 file) (segment_of file code_flags 64) (segment_of file data_flags 120))
+    (if field 2 56 file == 1
+    then code_image (field 8 24 file) (segment_of file code_flags 64)
+    else two_images (field 8 24 file) (segment_of file code_flags 64) (segment_of file data_flags 120))
     else None

@@ -1,13 +1,11 @@
 //! The program `oscar`: the machine over the standard streams.
 #![tactic(auto)]
 
-use std::alloc::AllocError;
-use std::env;
-use std::io;
-use std::process::ExitCode;
-
 use osc_outside::{StdSink, StdSource};
 use osc_top::{Outcome, Status, oscar};
+use std::alloc::AllocError;
+use std::process::ExitCode;
+use std::{env, io};
 
 /// A word that the command does not know. It stands for a word that is not UTF-8.
 const UNKNOWN_WORD: &str = "";
