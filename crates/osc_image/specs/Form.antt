@@ -2,8 +2,8 @@
 -- Object File Format, "ELF Header" and "Program Header Table"; the RISC-V ELF psABI, "File Header",
 -- for the machine number and e_flags. Fields are little-endian. Sums do not wrap. The order of the
 -- refusals, the longest file and the range of addresses are this project's own.
-use Rattle.std.specs.Prelude.{ℕ, ◌+◌, ◌*◌, ◌/◌, ◌%◌, ◌==◌, Bool, ◌&&◌, ◌||◌, not, nat_eq, nat_lt, List, [], ◌∷◌, length, take, drop, map, find, Option, Some, None, option_map, Result, Ok, Err}
-use Rattle.std.specs.List.{starts_with, filter, filter_map, range_with_len}
+use Rattle.std.specs.Prelude.{ℕ, ◌+◌, ◌*◌, ◌/◌, ◌%◌, ◌==◌, Bool, ◌&&◌, ◌||◌, not, nat_eq, nat_lt, if◌then◌else◌, List, [], ◌∷◌, length, take, drop, find, Option, Some, None, option_map, Result, Ok, Err}
+use Rattle.std.specs.List.{starts_with, filter_map, range_with_len}
 use Rattle.std.specs.Option.{option_or}
 use Rattle.std.specs.Int.{bit_at}
 use Rattle.byteorder.specs.Endian.{little_number}
@@ -15,7 +15,7 @@ use Rattle.osc_image.specs.declared.SegmentWhy.TheVariants as why
 use Rattle.osc_image.specs.Image.{Segment, Image, page_permits, page_limit}
 
 -- the number in this many bytes at a place of the file, the lowest byte first
-abbrev pub field : ℕ → ℕ → List ℕ → ℕ
+unfoldable pub field : ℕ → ℕ → List ℕ → ℕ
 field width place file = little_number width (drop place file)
 
 -- ---- the file header
@@ -101,17 +101,21 @@ is_out_of_range file place =
     nat_lt 0 (p_memsz file place)
     && (nat_lt (p_vaddr file place) 65536 || nat_lt 4294967296 (p_vaddr file place + p_memsz file place))
 
--- PT_DYNAMIC, PT_INTERP, PT_TLS; the last three are for PT_LOAD alone
+abbrev pub load_checks : List ℕ → ℕ → List (Check SegmentWhy)
+load_checks file place =
+    check (nat_lt (p_memsz file place) (p_filesz file place)) why.Sizes
+    ∷ check (nat_lt (length file) (p_offset file place + p_filesz file place)) why.FileEnd
+    ∷ check (is_out_of_range file place) why.Range
+    ∷ []
+
+-- PT_DYNAMIC, PT_INTERP and PT_TLS
 abbrev pub segment_checks : List ℕ → ℕ → List (Check SegmentWhy)
 segment_checks file place =
     check (nat_lt (length file) (place + 56)) why.TableEnd
     ∷ check (p_type file place == 2) why.Dynamic
     ∷ check (p_type file place == 3) why.Interpreter
     ∷ check (p_type file place == 7) why.ThreadStorage
-    ∷ check (is_load file place && nat_lt (p_memsz file place) (p_filesz file place)) why.Sizes
-    ∷ check (is_load file place && nat_lt (length file) (p_offset file place + p_filesz file place)) why.FileEnd
-    ∷ check (is_load file place && is_out_of_range file place) why.Range
-    ∷ []
+    ∷ (if is_load file place then load_checks file place else [])
 
 -- why the program header of an index is refused
 unfoldable pub segment_why : List ℕ → ℕ → Option SegmentWhy
@@ -146,15 +150,19 @@ segment_at file place = record {
   executable = bit_at (p_flags file place) 0 == 1;
 }
 
--- the places of the program headers, in the order of the table
-abbrev pub header_places : List ℕ → List ℕ
-header_places file = map (header_place file) (range_with_len 0 (e_phnum file))
+abbrev pub laid_at : List ℕ → ℕ → Option Segment
+laid_at file place = if is_laid file place then Some (segment_at file place) else None
 
-unfoldable pub segments_of : List ℕ → List Segment
-segments_of file = map (segment_at file) (filter (is_laid file) (header_places file))
+-- the segment of the program header of an index, None where it lays nothing
+unfoldable pub laid_segment : List ℕ → ℕ → Option Segment
+laid_segment file index = laid_at file (header_place file index)
+
+-- the segments of the first program headers, in the order of the table
+unfoldable pub segments_of : List ℕ → ℕ → List Segment
+segments_of file count = filter_map (laid_segment file) (range_with_len 0 count)
 
 abbrev pub image_in : List ℕ → Image
-image_in file = record { entry = e_entry file; segments = segments_of file }
+image_in file = record { entry = e_entry file; segments = segments_of file (e_phnum file) }
 
 abbrev pub is_write_exec : List Segment → ℕ → Bool
 is_write_exec segments page = page_permits segments Store page && page_permits segments Fetch page

@@ -15,17 +15,13 @@ different (x ∷ xs) = (if list_any (λ y. y == x) xs then 0 else 1) + different
 abbrev pub stack_pages : List ℕ
 stack_pages = range_with_len 1048816 16
 
--- VPN[2] of a page
-abbrev pub directory : ℕ → ℕ
-directory page = page / 262144
+-- the numbers of the tables that pages lie in, where each table is for so many pages
+unfoldable pub tables_of : ℕ → List ℕ → List ℕ
+tables_of size used = map (λ page. page / size) used
 
--- VPN[2] and VPN[1] of a page, as one number
-abbrev pub leaf_table : ℕ → ℕ
-leaf_table page = page / 512
-
--- pages, a root, and the tables below it
-abbrev pub frames_of : List ℕ → ℕ
-frames_of used = length used + 1 + different (map directory used) + different (map leaf_table used)
+-- VPN[2] is a page's number divided by 512 * 512, and VPN[2] with VPN[1] its number divided by 512
+abbrev pub table_count : List ℕ → ℕ
+table_count used = 1 + different (tables_of 262144 used) + different (tables_of 512 used)
 
 unfoldable pub needed_frames : Image → ℕ
-needed_frames image = frames_of (stack_pages ++ pages image)
+needed_frames image = length (stack_pages ++ pages image) + table_count (stack_pages ++ pages image)
