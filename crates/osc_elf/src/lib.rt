@@ -1,10 +1,14 @@
-//! Reads ELF files as images: an entry address and pages of bytes.
+//! Reads ELF files as images: an entry address, and pages with their permissions and bytes.
 #![tactic(auto)]
 
 mod fields;
+mod header;
 mod image;
+mod permitted;
 mod reader;
+mod segment;
+mod program_headers;
 
 pub use image::Image;
-pub use osc_image::ImageFault;
+pub use osc_image::{ImageFault, SegmentWhy};
 pub use reader::read_image;

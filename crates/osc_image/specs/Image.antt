@@ -1,71 +1,101 @@
--- What a loaded image is: an entry address and pages of bytes. ELF-64 Object File Format, "Program
--- Header Table": a segment's bytes stand from its virtual address on. Pages have 4096 bytes.
+-- What a loaded image is: ELF-64 Object File Format, "Program Header Table". A segment's bytes stand
+-- from its virtual address on, and zeros follow up to its size in memory. Segments are laid in the
+-- order of the table, and each replaces what it covers. Pages have 4096 bytes, and a page's number
+-- is its address divided by 4096. That a page has the joined flags of the segments that touch it is
+-- this project's own.
+use Rattle.std.specs.Prelude.{◌≡◌, ℕ, ◌<◌, ◌≤◌, ◌+◌, ◌-◌, ◌*◌, ◌/◌, min, max, Bool, ◌&&◌, ◌||◌, nat_lt, nat_le, if◌then◌else◌, List, length, reverse, find, slice_index, Option, Some, None, is_some, IsSome}
+use Rattle.std.specs.List.{list_any, filter, range_with_len}
+use Rattle.std.specs.Option.{option_map_or}
 use Rattle.osc_sv39.specs.declared.flags.PteBits.{PteBits}
-use Rattle.std.specs.Prelude.{ℕ, ◌+◌, ◌-◌, ◌*◌, ◌/◌, Bool, ◌&&◌, nat_lt, nat_le, if◌then◌else◌, List, length, slice_index, Option, Some, None}
+use Rattle.osc_sv39.specs.declared.entries.Access.{Access}
+use Rattle.osc_sv39.specs.declared.entries.Access.TheVariants.{Fetch, Load, Store}
 
--- bytes that stand from an address on
+-- a loaded segment: its virtual address, its size in memory, its bytes of the file, and PF_R, PF_W
+-- and PF_X
 pub record Segment : Type 0 where
-  pub start : ℕ
+  pub address : ℕ
+  pub size : ℕ
   pub bytes : List ℕ
+  pub readable : Bool
+  pub writable : Bool
+  pub executable : Bool
 
--- an entry address, the code, which is only read and executed, and what is read and written
+-- an entry address, and the segments in the order of the table
 pub record Image : Type 0 where
   pub entry : ℕ
-  pub code : Segment
-  pub writable : Option Segment
+  pub segments : List Segment
 
--- how many pages a segment touches, from its start, which is a page's start
-abbrev pub pages_of : Segment → ℕ
-pages_of segment = (length segment.bytes + 4095) / 4096
+-- the address is one of the segment's
+abbrev pub covers : ℕ → Segment → Bool
+covers address segment =
+    nat_le segment.address address && nat_lt address (segment.address + segment.size)
 
--- the first address after the segment's last page
-abbrev pub page_end : Segment → ℕ
-page_end segment = segment.start + 4096 * pages_of segment
+-- the segment has an address on the page
+abbrev pub touches : ℕ → Segment → Bool
+touches page segment =
+    nat_lt (max segment.address (4096 * page)) (min (segment.address + segment.size) (4096 * page + 4096))
 
--- the byte at an address of the segment's pages; 0 after its last byte
-abbrev pub byte_in : Segment → ℕ → Option ℕ
-byte_in segment address =
-    if nat_le segment.start address && nat_lt address (page_end segment)
-    then Some (slice_index segment.bytes (address - segment.start))
+-- what a segment's flags permit; what can be written can be read too
+abbrev pub permits : Segment → Access → Bool
+permits segment Fetch = segment.executable
+permits segment Load = segment.readable || segment.writable
+permits segment Store = segment.writable
+
+-- a page permits what a segment that touches it does
+unfoldable pub page_permits : List Segment → Access → ℕ → Bool
+page_permits segments access page =
+    list_any (λ segment. touches page segment && permits segment access) segments
+
+-- the flags R, W and X of a page's leaf, None where there are none
+abbrev pub bits_of : Bool → Bool → Bool → Option PteBits
+bits_of read write execute =
+    if read || write || execute
+    then Some (record { 0 = (if read then 2 else 0) + (if write then 4 else 0) + (if execute then 8 else 0) })
     else None
 
--- the first of two answers that is one
-abbrev pub or_else : Option ℕ → Option ℕ → Option ℕ
-or_else (Some byte) other = Some byte
-or_else None other = other
+-- the permissions of a page, None where it is not mapped
+abbrev pub bits_at : Image → ℕ → Option PteBits
+bits_at image page =
+    bits_of (page_permits image.segments Load page)
+    (page_permits image.segments Store page)
+    (page_permits image.segments Fetch page)
 
-abbrev pub byte_in_writable : Option Segment → ℕ → Option ℕ
-byte_in_writable None address = None
-byte_in_writable (Some segment) address = byte_in segment address
+abbrev pub is_mapped : Image → ℕ → Bool
+is_mapped image page = is_some (bits_at image page)
 
--- the byte at an address, where its page is mapped
-unfoldable pub byte_at : Image → ℕ → Option ℕ
-byte_at image address = or_else (byte_in image.code address) (byte_in_writable image.writable address)
+-- no page from one on is mapped
+abbrev pub NoneFrom : Image → ℕ → Type 0
+NoneFrom image from = (page : ℕ) → from ≤ page → bits_at image page ≡ None
 
--- whether a page, an address divided by 4096, belongs to the code
-unfoldable pub is_code : Image → ℕ → Bool
-is_code image page = nat_le image.code.start (4096 * page) && nat_lt (4096 * page) (page_end image.code)
+-- the least mapped page from one on
+pub record IsNextPage (image : Image) (from page : ℕ) : Type 0 where
+  pub at_or_above : from ≤ page
+  pub mapped : IsSome (bits_at image page)
+  pub least : (other : ℕ) → from ≤ other → other < page → bits_at image other ≡ None
 
--- permissions of a page: R is bit 1, W bit 2 and X bit 3, as in a page table entry
-abbrev pub read_execute : PteBits
-read_execute = record { 0 = 10 }
+-- the byte at an address of a segment: 0 after its bytes of the file
+abbrev pub byte_in : ℕ → Segment → ℕ
+byte_in address segment = slice_index segment.bytes (address - segment.address)
 
-abbrev pub read_write : PteBits
-read_write = record { 0 = 6 }
+-- the byte that was laid last at an address, 0 where none was
+unfoldable pub laid_byte : List Segment → ℕ → ℕ
+laid_byte segments address = option_map_or (byte_in address) (find (covers address) (reverse segments)) 0
 
-abbrev pub bits_in_writable : Option Segment → ℕ → Option PteBits
-bits_in_writable None page = None
-bits_in_writable (Some segment) page =
-    if nat_le segment.start (4096 * page) && nat_lt (4096 * page) (page_end segment) then Some read_write else None
+-- the byte at an address, None where its page is not mapped
+abbrev pub byte_at : Image → ℕ → Option ℕ
+byte_at image address =
+    if is_mapped image (address / 4096) then Some (laid_byte image.segments address) else None
 
--- what a page, an address divided by 4096, allows, where it is mapped
-unfoldable pub bits_at : Image → ℕ → Option PteBits
-bits_at image page = if is_code image page then Some read_execute else bits_in_writable image.writable page
+-- the pages below 4 GiB, of which an image has some
+unfoldable pub page_limit : ℕ
+page_limit = 1048576
 
-abbrev pub writable_pages : Option Segment → ℕ
-writable_pages None = 0
-writable_pages (Some segment) = pages_of segment
+-- the mapped pages below a limit, ascending
+unfoldable pub pages_below : Image → ℕ → List ℕ
+pages_below image limit = filter (is_mapped image) (range_with_len 0 limit)
 
--- how many pages are mapped
-unfoldable pub page_count : Image → ℕ
-page_count image = pages_of image.code + writable_pages image.writable
+abbrev pub pages : Image → List ℕ
+pages image = pages_below image page_limit
+
+abbrev pub page_count : Image → ℕ
+page_count image = length (pages image)
