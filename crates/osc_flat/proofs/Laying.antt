@@ -1,7 +1,7 @@
 -- Pages and their bytes are laid one after another, each in its place of a list.
 use Rattle.std.proofs.Common.{◌≡◌, ℕ, zero, suc, ◌+◌, ◌-◌, ◌^◌, ◌<◌, List, [], ◌∷◌, ◌++◌, take, drop, get_or, unwrap_or, replicate, refl, sym, ◌∙◌, append_assoc, append-nil, arith}
-use Rattle.osc_image.specs.Image.{Image, byte_at, read_write}
-use Rattle.osc_flat.specs.Memory.{Page, image_bytes, page_list, image_pages, zero_pages}
+use Rattle.osc_image.specs.Image.{Image, byte_at}
+use Rattle.osc_flat.specs.Memory.{Page, image_bytes, page_list, image_pages, read_write, zero_pages}
 
 -- one more byte of an image
 pub image_bytes-next : (image : Image) (start i count : ℕ) (front all : List ℕ) → i < count

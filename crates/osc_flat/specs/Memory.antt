@@ -7,7 +7,7 @@ use Rattle.osc_sv39.specs.declared.flags.PteBits.{PteBits}
 use Rattle.osc_sv39.specs.declared.entries.Access.{Access}
 use Rattle.osc_sv39.specs.declared.entries.Access.TheVariants.{Fetch, Load, Store}
 use Rattle.osc_sv39.specs.Entries.{is_readable, is_writable, is_executable}
-use Rattle.osc_image.specs.Image.{Image, bits_at, byte_at, read_write}
+use Rattle.osc_image.specs.Image.{Image, bits_at, byte_at}
 
 -- a page: its address divided by 4096, what it allows, and its bytes
 pub record Page : Type 0 where
@@ -81,6 +81,10 @@ page_list image number = option_to_list (option_map (image_page image number) (b
 unfoldable pub image_pages : Image → ℕ → ℕ → List Page
 image_pages image number zero = []
 image_pages image number (suc count) = page_list image number ++ image_pages image (number + 1) count
+
+-- the permissions R and W
+abbrev pub read_write : PteBits
+read_write = record { 0 = 6 }
 
 -- this many pages of zeros that are read and written
 unfoldable pub zero_pages : ℕ → ℕ → List Page

@@ -1,4 +1,5 @@
 -- What a source that was read to its end gave, and what is due for it.
+use Rattle.std.specs.Prelude.{nat_lt, if◌then◌else◌, Bool}
 use Rattle.std.proofs.Common.{◌≡◌, ℕ, ◌+◌, ◌-◌, ◌<◌, ◌≤◌, true, false, List, [], ◌++◌, length, drop, None, Some, Ok, Err, refl, sym, ◌∙◌, ap, subst, inl, inr, length-append, append-nil, arith}
 use Rattle.std.proofs.Math.Seq.{drop-append_seam}
 use Rattle.std.proofs.Math.Nat.{eq-or-lt_of_le}
@@ -9,21 +10,22 @@ use Rattle.std.specs.declared.result.Result.{Result}
 use Rattle.osc_outside.specs.Bytes.{Consumes, IsAtEnd}
 use Rattle.osc_outside.proofs.KnownBytes.{Consumes-told}
 use Rattle.osc_image.specs.Image.{Image}
-use Rattle.osc_image.specs.Form.{has_header, image_of}
+use Rattle.osc_image.specs.declared.ImageFault.{ImageFault}
+use Rattle.osc_image.specs.declared.ImageFault.TheVariants as fault
+use Rattle.osc_image.specs.Form.{header_fault, image_of}
 use Rattle.osc_top.specs.declared.outcome.Outcome.{Outcome}
-use Rattle.osc_top.specs.declared.outcome.Outcome.TheVariants.{UnknownWords, NotBuilt, SourceFault, NoMemory, Spent, Fault, Exit}
-use Rattle.osc_top.specs.declared.outcome.Refusal.{Refusal}
-use Rattle.osc_top.specs.declared.outcome.Refusal.TheVariants as refusal
+use Rattle.osc_top.specs.declared.outcome.Outcome.TheVariants.{UnknownWords, BadImage, NoRoom, SourceFault, NoMemory, Spent, Fault, Exit}
+use Rattle.osc_image.specs.Frames.{needed_frames}
 use Rattle.osc_flat.specs.Flat.{Progress, Running, Exited, Faulted, flat}
-use Rattle.osc_top.specs.Due.{Due, due_of_progress, due_of_image, due_of, budget, HasGuestStatus}
+use Rattle.osc_top.specs.Due.{Due, due_of_progress, due_of_image, due_of, budget, frame_count, HasGuestStatus}
 use Rattle.osc_top.specs.Answer.{IsRead, Cause, Decided, FromFile, longest_read}
 use Rattle.osc_top.specs.Loading.{IsLoaded}
-use Rattle.osc_top.specs.Deciding.{Yields, Runs, IsDue}
+use Rattle.osc_top.specs.Deciding.{Yields, IsDue}
 
 -- a file that is too long is no image
-image_of-long : (file : List ℕ) → 16777216 < length file → image_of file ≡ None
-unfolding image_of has_header
-image_of-long file long = grind (arith, nat_tests)
+image_of-long : (file : List ℕ) → 16777216 < length file → image_of file ≡ Err fault.TooLong
+unfolding image_of header_fault
+image_of-long file long = let test : nat_lt 16777216 (length file) ≡ true = grind (arith, nat_tests) in rw test refl
 
 -- what is due for a file that is too long does not depend on what follows
 due_of-long : (file more : List ℕ) → length file ≡ longest_read → due_of (file ++ more) ≡ due_of file
@@ -83,18 +85,15 @@ due-of before after file due loaded gives =
     record { file = whole.all; gives = gives ∙ whole.same; read = whole.read }
 
 -- what the run of a file that was read whole comes to
-pub Runs-loaded : (before after : Option (List ℕ)) (rose : Type 0) (file : List ℕ) (result : Result Due Refusal)
-    → IsLoaded before after file → Yields result (due_of file) → Runs before after rose result
-Runs-loaded before after rose file (Ok due) loaded yields = (due-of before after file due loaded yields.0, yields.1)
-Runs-loaded before after rose file (Err refusal.Source) loaded yields = absurd yields
-Runs-loaded before after rose file (Err refusal.Image) loaded yields =
-    due-of before after file (record { outcome = NotBuilt; output = [] }) loaded (sym yields)
-Runs-loaded before after rose file (Err refusal.Memory) loaded yields = (file, loaded.taken)
+pub IsDue-loaded : (before after : Option (List ℕ)) (file : List ℕ) (due : Due) → IsLoaded before after file
+    → Yields due (due_of file) → IsDue before after due × HasGuestStatus due.outcome
+IsDue-loaded before after file due loaded yields = (due-of before after file due loaded yields.0, yields.1)
 
 -- the outcomes that a file can have
 FromRun : Outcome → Type 0
 FromRun UnknownWords = ⊥
-FromRun NotBuilt = Unit {0}
+FromRun (BadImage fault) = Unit {0}
+FromRun (NoRoom needed) = Unit {0}
 FromRun SourceFault = ⊥
 FromRun NoMemory = ⊥
 FromRun Spent = Unit {0}
@@ -107,10 +106,15 @@ due-from-run (Running hart) = tt
 due-from-run (Exited status output) = tt
 due-from-run (Faulted output) = tt
 
-image-from-run : (image : Option Image) → FromRun (due_of_image image).outcome
+room-from-run : (image : Image) (small : Bool) → FromRun (if small then record { outcome = NoRoom (needed_frames image); output = [] } else due_of_progress (flat image budget)).outcome
 unfolding FromRun
-image-from-run None = tt
-image-from-run (Some image) = due-from-run (flat image budget)
+room-from-run image true = tt
+room-from-run image false = due-from-run (flat image budget)
+
+image-from-run : (image : Result Image ImageFault) → FromRun (due_of_image image).outcome
+unfolding FromRun
+image-from-run (Err fault) = tt
+image-from-run (Ok image) = room-from-run image (nat_lt frame_count (needed_frames image))
 
 file-from-run : (file : List ℕ) → FromRun (due_of file).outcome
 unfolding due_of
@@ -122,7 +126,9 @@ unfolding FromRun
 cause-of words before after rose due UnknownWords few is_due from_run guest = absurd from_run
 cause-of words before after rose due SourceFault few is_due from_run guest = absurd from_run
 cause-of words before after rose due NoMemory few is_due from_run guest = absurd from_run
-cause-of words before after rose due NotBuilt few is_due from_run guest =
+cause-of words before after rose due (BadImage fault) few is_due from_run guest =
+    record { no_word = few; file = is_due.file; gives = is_due.gives; read = is_due.read }
+cause-of words before after rose due (NoRoom needed) few is_due from_run guest =
     record { no_word = few; file = is_due.file; gives = is_due.gives; read = is_due.read }
 cause-of words before after rose due Spent few is_due from_run guest =
     record { no_word = few; file = is_due.file; gives = is_due.gives; read = is_due.read }

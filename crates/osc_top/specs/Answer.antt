@@ -3,7 +3,7 @@
 use Rattle.std.specs.Prelude.{◌≡◌, ◌≢◌, ℕ, ◌<◌, ◌≤◌, List, [], length, take, drop, Option, Some, None}
 use Rattle.osc_outside.specs.Bytes.{Consumes, Appends}
 use Rattle.osc_top.specs.declared.outcome.Outcome.{Outcome}
-use Rattle.osc_top.specs.declared.outcome.Outcome.TheVariants.{UnknownWords, NotBuilt, SourceFault, NoMemory, Spent, Fault, Exit}
+use Rattle.osc_top.specs.declared.outcome.Outcome.TheVariants.{UnknownWords, BadImage, NoRoom, SourceFault, NoMemory, Spent, Fault, Exit}
 use Rattle.osc_top.specs.Due.{Due, due_of, status_of, line_of, sink_fault}
 
 -- the most bytes that are read: one more than the longest file
@@ -39,7 +39,8 @@ abbrev pub Cause : ℕ → Option (List ℕ) → Option (List ℕ) → Type 0 �
 Cause words before after rose due UnknownWords = (1 < words) × (due.output ≡ []) × (after ≡ before)
 Cause words before after rose due SourceFault = rose × NothingRun words before after due
 Cause words before after rose due NoMemory = NothingRun words before after due
-Cause words before after rose due NotBuilt = FromFile words before after due
+Cause words before after rose due (BadImage fault) = FromFile words before after due
+Cause words before after rose due (NoRoom needed) = FromFile words before after due
 Cause words before after rose due Spent = FromFile words before after due
 Cause words before after rose due Fault = FromFile words before after due
 Cause words before after rose due (Exit status) = (status < 64) × FromFile words before after due

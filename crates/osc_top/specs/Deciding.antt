@@ -1,21 +1,13 @@
 -- What the run of a file comes to, where memory may run out. This project's own.
-use Rattle.std.specs.Prelude.{◌≡◌, ℕ, List, [], Option, Result, Ok, Err}
-use Rattle.osc_top.specs.declared.outcome.Outcome.TheVariants.{NotBuilt}
+use Rattle.std.specs.Prelude.{◌≡◌, ℕ, List, Option, Result, Ok, Err}
 use Rattle.osc_top.specs.declared.outcome.Refusal.{Refusal}
 use Rattle.osc_top.specs.declared.outcome.Refusal.TheVariants as refusal
 use Rattle.osc_top.specs.Due.{Due, due_of, HasGuestStatus}
 use Rattle.osc_top.specs.Answer.{IsRead, TakesFront}
 
--- a refusal that a file may meet
-abbrev pub Stops : Refusal → Due → Type 0
-Stops refusal.Source due = ⊥
-Stops refusal.Image due = due ≡ record { outcome = NotBuilt; output = [] }
-Stops refusal.Memory due = Unit {0}
-
--- what is due is yielded, unless memory ran out
-abbrev pub Yields : Result Due Refusal → Due → Type 0
-Yields (Ok yielded) due = (yielded ≡ due) × HasGuestStatus yielded.outcome
-Yields (Err why) due = Stops why due
+-- what is due is yielded
+abbrev pub Yields : Due → Due → Type 0
+Yields yielded due = (yielded ≡ due) × HasGuestStatus yielded.outcome
 
 -- a file was read whole, and this is due for it
 pub record IsDue (before after : Option (List ℕ)) (due : Due) : Type 0 where
@@ -26,7 +18,6 @@ pub record IsDue (before after : Option (List ℕ)) (due : Due) : Type 0 where
 -- why nothing was run of a source, whose count may have risen
 abbrev pub StopsRead : Option (List ℕ) → Option (List ℕ) → Type 0 → Refusal → Type 0
 StopsRead before after rose refusal.Source = rose × TakesFront before after
-StopsRead before after rose refusal.Image = IsDue before after (record { outcome = NotBuilt; output = [] })
 StopsRead before after rose refusal.Memory = TakesFront before after
 
 abbrev pub Runs : Option (List ℕ) → Option (List ℕ) → Type 0 → Result Due Refusal → Type 0

@@ -20,7 +20,6 @@ pub record IsLoaded (before after : Option (List ℕ)) (file : List ℕ) : Type 
 -- a refusal, where the source's count rose or memory ran out
 abbrev pub StopsAt : Type 0 → Refusal → Type 0
 StopsAt rose refusal.Source = rose
-StopsAt rose refusal.Image = ⊥
 StopsAt rose refusal.Memory = Unit {0}
 
 abbrev pub Loads : Option (List ℕ) → Option (List ℕ) → Type 0 → Result (Vec ℕ Global) Refusal → Type 0

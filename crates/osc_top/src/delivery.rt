@@ -3,7 +3,7 @@
 ghost use Rattle.std.specs.Prelude.{◌≡◌, ◌≤◌, ◌+◌, ◌⊎◌, ℕ, length, take, OnErr, OnOk};
 ghost use Rattle.osc_outside.specs.Bytes.{Appends};
 ghost use Rattle.osc_outside.specs.Faults.{Rose};
-ghost use Rattle.osc_top.specs.Due.{HasGuestStatus};
+ghost use Rattle.osc_top.specs.Due.{HasGuestStatus, line_of};
 ghost use Rattle.osc_top.specs.Answer.{Broken, Delivered};
 
 use crate::outcome::{Outcome, Status};
@@ -49,15 +49,17 @@ fn write_both<O: Sink, E: Sink>(
 pub fn deliver<O: Sink, E: Sink>(
     outcome: Outcome,
     output: &[u8],
+    line: &str,
     out: &mut O,
     err: &mut E,
 ) -> Status
-    requires { HasGuestStatus outcome }
+    requires guest { HasGuestStatus outcome }
+    requires line { line.now ≡ line_of outcome }
     ensures { Delivered (O.holds out.old) (O.holds out.new) (E.holds err.old) (E.holds err.new)
         (Rose (O.faults out.old) (O.faults out.new) ⊎ Rose (E.faults err.old) (E.faults err.new))
         (record { outcome = outcome; output = output.now }) result.0 }
 {
-    match write_both(out, output, err, outcome.line().as_bytes()) {
+    match write_both(out, output, err, line.as_bytes()) {
         Ok(()) => Status(outcome.status()),
         Err(Failed) => Status(SINK_FAULT),
     }

@@ -7,7 +7,7 @@ mod loading;
 mod outcome;
 mod top;
 
-pub use outcome::{Outcome, Status};
+pub use outcome::{MEMORY_LINE, Outcome, Status};
 pub use top::oscar;
 
 #[cfg(test)]

@@ -148,21 +148,53 @@ fn runs_images(rt: HostRuntime) -> Result<(), Fail> {
     Ok(())
 }
 
+/// The file with one byte replaced, if it is that long.
+fn patched(mut file: Vec<u8>, at: usize, byte: u8) -> Vec<u8> {
+    if let Some(place) = file.get_mut(at) {
+        *place = byte;
+    }
+    file
+}
+
+/// The first bytes of a file.
+fn cut(mut file: Vec<u8>, length: usize) -> Vec<u8> {
+    file.truncate(length);
+    file
+}
+
 #[test]
 fn refuses_words_and_files(rt: HostRuntime) -> Result<(), Fail> {
-    let given = run_on(
-        rt.alloc(),
-        &["oscar", "x"],
-        image(rt.alloc(), &SEVEN, b"")?,
-        WELL,
-    )?;
+    let seven = || image(rt.alloc(), &SEVEN, b"");
+    let given = run_on(rt.alloc(), &["oscar", "x"], seven()?, WELL)?;
     assert_eq!(rt; given.status, Status(64));
     assert_eq!(rt; given.out.bytes(), b"".as_slice());
     assert_eq!(rt; given.err.bytes(), b"oscar: usage: words\n".as_slice());
-    let given = run_on(rt.alloc(), &["oscar"], Vec::new(rt.alloc()), WELL)?;
-    assert_eq!(rt; given.status, Status(65));
-    assert_eq!(rt; given.out.bytes(), b"".as_slice());
-    assert_eq!(rt; given.err.bytes(), b"oscar: image: not built\n".as_slice());
+    // e_flags stands at 48, e_type at 16, e_phnum at 56, and of the program header p_flags at 68 and
+    // p_memsz at 104
+    let flags = patched(seven()?, 48, 1);
+    let kind = patched(patched(seven()?, 48, 1), 16, 3);
+    let rows: [(Vec<u8>, &[u8]); 8] = [
+        (Vec::new(rt.alloc()), b"oscar: image: truncated\n"),
+        (cut(seven()?, 63), b"oscar: image: truncated\n"),
+        (cut(seven()?, 64), b"oscar: image: segment 0 table end\n"),
+        (patched(seven()?, 56, 0), b"oscar: image: entry 0x10000\n"),
+        (flags, b"oscar: image: flags\n"),
+        (kind, b"oscar: image: type\n"),
+        (
+            patched(seven()?, 68, 7),
+            b"oscar: image: write and execute at 0x10000\n",
+        ),
+        (
+            patched(patched(seven()?, 104, 0), 106, 64),
+            b"oscar: image needs 1047 frames of 1024\n",
+        ),
+    ];
+    for (file, line) in rows {
+        let given = run_on(rt.alloc(), &["oscar"], file, WELL)?;
+        assert_eq!(rt; given.err.bytes(), line);
+        assert_eq!(rt; given.status, Status(65));
+        assert_eq!(rt; given.out.bytes(), b"".as_slice());
+    }
     Ok(())
 }
 

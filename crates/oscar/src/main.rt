@@ -2,7 +2,7 @@
 #![tactic(auto)]
 
 use osc_outside::{StdSink, StdSource};
-use osc_top::{Outcome, Status, oscar};
+use osc_top::{MEMORY_LINE, Outcome, Status, oscar};
 use std::alloc::AllocError;
 use std::process::ExitCode;
 use std::{env, io};
@@ -60,9 +60,8 @@ fn run_with(rt: &HostRuntime, words: &[&str]) -> Status {
 
 /// Memory ran out before the words were read.
 fn no_memory(rt: &HostRuntime) -> Status {
-    let outcome = Outcome::NoMemory;
-    match rt.eprint(outcome.line()) {
-        Ok(()) => Status(outcome.status()),
+    match rt.eprint(MEMORY_LINE) {
+        Ok(()) => Status(Outcome::NoMemory.status()),
         Err(_) => Status(67),
     }
 }
