@@ -1,13 +1,13 @@
 -- What a source that was read to its end gave, and what is due for it.
 use Rattle.std.specs.Prelude.{nat_lt, if◌then◌else◌, Bool}
-use Rattle.std.proofs.Common.{◌≡◌, ℕ, ◌+◌, ◌-◌, ◌<◌, ◌≤◌, true, false, List, [], ◌++◌, length, drop, None, Some, Ok, Err, refl, sym, ◌∙◌, ap, subst, inl, inr, length-append, append-nil, arith}
+use Rattle.std.proofs.Common.{◌≡◌, ℕ, ◌<◌, ◌≤◌, true, false, List, [], ◌++◌, length, drop, None, Some, Ok, Err, refl, sym, ◌∙◌, ap, subst, inl, inr, length-append, append-nil, arith}
 use Rattle.std.proofs.Math.Seq.{drop-append_seam}
 use Rattle.std.proofs.Math.Nat.{eq-or-lt_of_le}
 use Rattle.std.proofs.lemmas.List.{drop_all}
 use Rattle.std.proofs.lemmas.Bool.Decides.{nat_tests}
 use Rattle.std.specs.declared.option.Option.{Option}
 use Rattle.std.specs.declared.result.Result.{Result}
-use Rattle.osc_outside.specs.Bytes.{Consumes, IsAtEnd}
+use Rattle.osc_outside.specs.Bytes.{Consumes}
 use Rattle.osc_outside.proofs.KnownBytes.{Consumes-told}
 use Rattle.osc_image.specs.Image.{Image}
 use Rattle.osc_image.specs.declared.ImageFault.{ImageFault}
@@ -18,7 +18,7 @@ use Rattle.osc_top.specs.declared.outcome.Outcome.TheVariants.{UnknownWords, Bad
 use Rattle.osc_image.specs.Frames.{needed_frames}
 use Rattle.osc_flat.specs.Flat.{Progress, Running, Exited, Faulted, flat}
 use Rattle.osc_top.specs.Due.{Due, due_of_progress, due_of_image, due_of, budget, frame_count, HasGuestStatus}
-use Rattle.osc_top.specs.Answer.{IsRead, Cause, Decided, FromFile, longest_read}
+use Rattle.osc_top.specs.Answer.{IsRead, Cause, Decided, longest_read}
 use Rattle.osc_top.specs.Loading.{IsLoaded}
 use Rattle.osc_top.specs.Deciding.{Yields, IsDue}
 

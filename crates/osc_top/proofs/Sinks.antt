@@ -1,5 +1,5 @@
 -- What two sinks hold where the second failed.
-use Rattle.std.proofs.Common.{◌≡◌, ℕ, ◌≤◌, ◌⊎◌, List, length, take, inr, Ok, Err, OnErr, arith}
+use Rattle.std.proofs.Common.{ℕ, ◌⊎◌, List, length, take, inr, Ok, Err, OnErr, arith}
 use Rattle.std.proofs.Math.Seq.{take-length}
 use Rattle.std.specs.declared.option.Option.{Option}
 use Rattle.std.specs.declared.result.Result.{Result}

@@ -1,5 +1,5 @@
 -- What reading a source to its end comes to. This project's own.
-use Rattle.std.specs.Prelude.{◌≡◌, ℕ, ◌<◌, ◌≤◌, List, length, take, Option, Result, Ok, Err, Vec, vec_len}
+use Rattle.std.specs.Prelude.{◌≡◌, ℕ, ◌<◌, ◌≤◌, List, length, take, Option, Result, Ok, Err, Vec}
 use Rattle.std.specs.declared.alloc.Global.{Global}
 use Rattle.osc_outside.specs.Bytes.{Consumes, IsAtEnd}
 use Rattle.osc_top.specs.declared.outcome.Refusal.{Refusal}
