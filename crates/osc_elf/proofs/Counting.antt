@@ -81,6 +81,7 @@ different-more (y ∷ xs) x =
     at true false n e = grind (arith, nat_tests)
     at false true n e = grind (arith, nat_tests)
     at false false n e = grind (arith, nat_tests)
+
     same : (y x : ℕ) (xs : List ℕ) → (y ≡ x) → list_any (λ z. z == y) xs ≡ list_any (λ z. z == x) xs
     same y x xs e = ap (λ w. list_any (λ z. z == w) xs) e
 

@@ -24,6 +24,7 @@ touches-numbers a s p some =
   where
     meets : a / 4096 < p + 1 → p < (a + s + 4095) / 4096 → max a (4096 * p) < min (a + s) (4096 * p + 4096)
     meets low high = omega arith
+
     within : max a (4096 * p) < min (a + s) (4096 * p + 4096) → (a / 4096 < p + 1) × (p < (a + s + 4095) / 4096)
     within both = (omega arith, omega arith)
 
@@ -114,6 +115,7 @@ last_end-each (s ∷ ss) zero d inside = omega arith
 last_end-each (s ∷ ss) (suc i) d inside = let rest = last_end-each ss i d (omega arith) in omega arith
 
 pub ruleset reach_steps = (common_steps, elements, nat_tests, last_end-more, reach_at-more, last_end-each)
+
 pub ruleset sweep_steps = (common_steps, elements, nat_tests, reach-start, reach-more, permits-reach, permits-beyond)
 
 -- the table grows by one page

@@ -22,4 +22,4 @@ pub write_exec-none : (segments : List Segment) (page limit : ℕ) → page ≡ 
 unfolding write_exec_below
 write_exec-none segments page limit end beyond none =
     find-none (is_write_exec segments) 0 page_limit (λ k above below.
-        elim (cases_lt k page) [ inl early ↦ none k early | inr late ↦ rw (beyond Store k (omega arith)) refl ])
+    elim (cases_lt k page) [ inl early ↦ none k early | inr late ↦ rw (beyond Store k (omega arith)) refl ])

@@ -16,9 +16,13 @@ const FILE_HEADER: usize = 64;
 const MAGIC: [u8; 4] = [0x7f, b'E', b'L', b'F'];
 
 const ELFCLASS64: u8 = 2;
+
 const ELFDATA2LSB: u8 = 1;
+
 const EV_CURRENT: u8 = 1;
+
 const ET_EXEC: u16 = 2;
+
 const EM_RISCV: u16 = 243;
 
 /// EF_RISCV_RVC and the two bits of the float ABI (RISC-V ELF psABI, "File Header").

@@ -21,6 +21,7 @@ const STACK_FRAMES: u64 = 16;
 
 /// The pages of a table of level 1, and of one of level 0.
 const DIRECTORY_PAGES: u64 = 512 * 512;
+
 const LEAF_TABLE_PAGES: u64 = 512;
 
 /// A program's entry address and its segments. A page has the joined flags of the segments that touch
@@ -77,12 +78,20 @@ fn last_covering(segments: &[Segment], address: u64) -> Option<&Segment>
     ensures last { option_copied result ≡ find (λ s. image.covers address (shown [] s)) (reverse segments.now) }
     ensures low { IfSome result (λ s. s.now.address ≤ address) }
 {
-    segments.iter().rev().find(|segment| segment.covers(address))
+    segments
+        .iter()
+        .rev()
+        .find(|segment| segment.covers(address))
 }
 
 impl Image {
     /// The image of the segments, whose bytes stand in the file.
-    pub fn new(alloc: Global, entry: u64, file: Vec<u8>, segments: Vec<Segment>) -> Result<Image, AllocError>
+    pub fn new(
+        alloc: Global,
+        entry: u64,
+        file: Vec<u8>,
+        segments: Vec<Segment>,
+    ) -> Result<Image, AllocError>
         ensures { IfOk result (λ made. made ≡ record { entry = entry; segments = all_shown file.items segments.items }) }
     {
         let limit = last_end(&segments);

@@ -5,10 +5,13 @@ mod fields;
 mod header;
 mod image;
 mod permitted;
+mod program_headers;
 mod reader;
 mod segment;
-mod program_headers;
 
 pub use image::Image;
 pub use osc_image::{ImageFault, SegmentWhy};
 pub use reader::read_image;
+
+#[cfg(test)]
+mod tests;

@@ -38,7 +38,12 @@ fn note_reach(reaches: &mut Vec<u32>, segment: &Segment, access: Access)
 /// For each page how far the segments reach that begin on it and permit the access: the number of the
 /// page after the last one, 0 where there is no such segment.
 #[tactic(auto, using(crate::proofs::Reaching::reach_steps))]
-fn reaches(alloc: Global, segments: &[Segment], access: Access, limit: usize) -> Result<Vec<u32>, AllocError>
+fn reaches(
+    alloc: Global,
+    segments: &[Segment],
+    access: Access,
+    limit: usize,
+) -> Result<Vec<u32>, AllocError>
     requires { last_end segments.now ≤ limit }
     ensures len { IfOk result (λ reaches. vec_len reaches ≡ limit) }
     ensures each { IfOk result (λ reaches. Reaches reaches.items segments.now access limit) }
@@ -52,7 +57,12 @@ fn reaches(alloc: Global, segments: &[Segment], access: Access, limit: usize) ->
 
 /// For each page up to the last whether it can be accessed so.
 #[tactic(auto, using(crate::proofs::Reaching::sweep_steps))]
-pub fn permitted(alloc: Global, segments: &[Segment], access: Access, limit: u32) -> Result<Vec<bool>, AllocError>
+pub fn permitted(
+    alloc: Global,
+    segments: &[Segment],
+    access: Access,
+    limit: u32,
+) -> Result<Vec<bool>, AllocError>
     requires { last_end segments.now ≤ limit }
     ensures len { IfOk result (λ table. vec_len table ≡ limit) }
     ensures each { IfOk result (λ table. Permitted table.items segments.now access) }

@@ -14,16 +14,22 @@ use std::alloc::{AllocError, Global};
 const PROGRAM_HEADER: u64 = 56;
 
 const PT_LOAD: u32 = 1;
+
 const PT_DYNAMIC: u32 = 2;
+
 const PT_INTERP: u32 = 3;
+
 const PT_TLS: u32 = 7;
 
 const PF_X: u32 = 1;
+
 const PF_W: u32 = 2;
+
 const PF_R: u32 = 4;
 
 /// The first address of images, and the first after them.
 const IMAGE_START: u64 = 0x1_0000;
+
 const IMAGE_END: u64 = 0x1_0000_0000;
 
 /// The place of a program header, None where it is not wholly in the file.
@@ -58,7 +64,9 @@ fn load_why(file: &[u8], place: usize) -> Option<SegmentWhy>
         Some(SegmentWhy::Sizes)
     } else if offset > length || file_size > length - offset {
         Some(SegmentWhy::FileEnd)
-    } else if size > 0 && (address < IMAGE_START || address > IMAGE_END || size > IMAGE_END - address) {
+    } else if size > 0
+        && (address < IMAGE_START || address > IMAGE_END || size > IMAGE_END - address)
+    {
         Some(SegmentWhy::Range)
     } else {
         None
@@ -129,7 +137,7 @@ pub fn read_headers(alloc: Global, file: &[u8]) -> Result<Vec<Segment>, ImageFau
     requires short { length file.now ≤ 16777216 }
     ensures { MatchResult result
         (λ kept. (form.table_fault file.now ≡ None)
-            × (all_shown file.now kept.items ≡ form.segments_of file.now (form.e_phnum file.now)))
+        × (all_shown file.now kept.items ≡ form.segments_of file.now (form.e_phnum file.now)))
         (λ fault. Stops fault (form.table_fault file.now)) }
 {
     let mut segments = Vec::new(alloc);

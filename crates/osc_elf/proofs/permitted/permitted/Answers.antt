@@ -11,11 +11,14 @@ loop-page-preserved c =
     let each = c.in_ok-reaches.ensures.each c.loop-page.page (omega arith) in
     let end : c.max-end.result ≡ reach_below c.args.segments.now c.args.access (c.loop-page.page + 1) =
     rw (reach-more c.args.segments.now c.args.access c.loop-page.page) (grind (arith, common_steps, elements, each, c.loop-page.invariant.1)) in
-    let len : length c.loop-page.table.items ≡ c.loop-page.page = grind (arith, common_steps, c.loop-page.invariant.0) in
-    (c.in_ok-push.ensures.len ∙ ap (λ n. n + 1) c.loop-page.invariant.0, end, λ file.
-        rw c.in_ok-push.ensures.items
-        (swept file c.args.segments.now c.args.access c.loop-page.page c.max-end.result c.loop-page.table.items len end
-        (c.loop-page.invariant.2 file)))
+    let len : length c.loop-page.table.items ≡ c.loop-page.page = grind (arith, common_steps, c.loop-page.invariant.0) in (
+      c.in_ok-push.ensures.len ∙ ap (λ n. n + 1) c.loop-page.invariant.0,
+      end,
+      λ file.
+          rw c.in_ok-push.ensures.items
+          (swept file c.args.segments.now c.args.access c.loop-page.page c.max-end.result c.loop-page.table.items len end
+          (c.loop-page.invariant.2 file)),
+    )
 
 pub returns-clause-each : goal.returns-clause-each
 returns-clause-each c = λ file page.
