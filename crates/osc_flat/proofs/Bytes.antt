@@ -1,7 +1,6 @@
 -- Reading bytes one after another.
 use Rattle.std.proofs.Common.{◌≡◌, ℕ, suc, ◌+◌, ◌-◌, ◌<◌, true, false, List, [], ◌∷◌, ◌++◌, None, Some, is_some, refl, sym, ◌∙◌, ap, append_assoc, append-nil, arith}
 use Rattle.std.specs.declared.option.Option.{Option}
-use Rattle.std.specs.Option.{option_map}
 use Rattle.osc_isa.specs.Numbers.{wrapped}
 use Rattle.osc_flat.specs.Memory.{Page}
 use Rattle.osc_flat.specs.Flat.{byte_of, bytes_of, cons_both, with_front}

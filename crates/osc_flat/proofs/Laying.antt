@@ -1,5 +1,5 @@
 -- Pages and their bytes are laid one after another, each in its place of a list.
-use Rattle.std.proofs.Common.{◌≡◌, ℕ, zero, suc, ◌+◌, ◌-◌, ◌^◌, ◌<◌, List, [], ◌∷◌, ◌++◌, take, drop, get_or, unwrap_or, replicate, refl, sym, ◌∙◌, append_assoc, append-nil, arith}
+use Rattle.std.proofs.Common.{◌≡◌, ℕ, suc, ◌+◌, ◌-◌, ◌<◌, List, [], ◌∷◌, ◌++◌, unwrap_or, replicate, sym, ◌∙◌, append_assoc, append-nil, arith}
 use Rattle.osc_image.specs.Image.{Image, byte_at}
 use Rattle.osc_flat.specs.Memory.{Page, image_bytes, page_list, image_pages, read_write, zero_pages}
 

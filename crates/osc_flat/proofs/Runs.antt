@@ -1,5 +1,5 @@
 -- A run goes on by one step.
-use Rattle.std.proofs.Common.{◌≡◌, ℕ, zero, suc, ◌+◌, ◌-◌, ◌<◌, ◌≤◌, refl, sym, ◌∙◌, ap, arith}
+use Rattle.std.proofs.Common.{◌≡◌, ℕ, suc, ◌+◌, ◌-◌, ◌<◌, ◌≤◌, refl, sym, ◌∙◌, ap, arith}
 use Rattle.osc_flat.specs.declared.hart.Ran.{Ran}
 use Rattle.osc_flat.specs.declared.hart.Ran.TheVariants.{On, Exit, Fault}
 use Rattle.osc_flat.specs.Flat.{Hart, Running, goes_on, flat_step, flat_from}

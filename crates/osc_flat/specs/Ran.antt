@@ -1,5 +1,5 @@
 -- What the code's answer and hart say together of a run. This project's own.
-use Rattle.std.specs.Prelude.{ℕ, ◌<◌}
+use Rattle.std.specs.Prelude.{◌<◌}
 use Rattle.osc_flat.specs.declared.hart.Ran.{Ran}
 use Rattle.osc_flat.specs.declared.hart.Ran.TheVariants.{On, Exit, Fault}
 use Rattle.osc_flat.specs.Flat.{Hart, Progress, Running, Exited, Faulted}

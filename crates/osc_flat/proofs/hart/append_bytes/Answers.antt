@@ -1,4 +1,4 @@
-use Rattle.std.proofs.Common.{◌≡◌, [], ◌∷◌, ◌++◌, sym, ◌∙◌, arith}
+use Rattle.std.proofs.Common.{◌≡◌, sym, ◌∙◌, arith}
 use Rattle.std.proofs.lemmas.Grind.{common_steps}
 use Rattle.osc_flat.proofs.Bytes.{bytes_of-next, bytes_of-ends, bytes_of-refused}
 use Rattle.osc_flat.proofs.hart.append_bytes.Goals as goal
