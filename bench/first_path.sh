@@ -1,0 +1,22 @@
+#!/usr/bin/env bash
+# Times the built program on a file of 16 MiB, which is read and refused, and on one million instructions
+# of a guest that never ends. It prints both and is no test.
+set -eu
+cd "$(dirname "$0")/.."
+./run < examples/status.elf > /dev/null 2>&1 || true
+program=crates/oscar/out/oscar
+work=$(mktemp -d)
+trap 'rm -rf "$work"' EXIT
+head -c 16777216 /dev/zero > "$work/long"
+# the image of examples/status with its first instruction replaced by a jump to itself
+cp examples/status.elf "$work/loop"
+printf '\x6f\x00\x00\x00' | dd of="$work/loop" bs=1 seek=4096 conv=notrunc status=none
+timed() {
+    local start end
+    start=$(date +%s%N)
+    "$program" < "$2" > /dev/null 2> "$work/err" || true
+    end=$(date +%s%N)
+    echo "$1: $(((end - start) / 1000000)) ms ($(cat "$work/err"))"
+}
+timed "16 MiB read" "$work/long"
+timed "1000000 instructions" "$work/loop"

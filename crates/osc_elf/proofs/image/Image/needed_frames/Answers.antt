@@ -1,0 +1,8 @@
+use Rattle.std.proofs.Common.{sym, ◌∙◌, arith}
+use Rattle.osc_elf.proofs.Counting.{needed-is}
+use Rattle.osc_elf.proofs.image.Image.needed_frames.Goals as goal
+
+pub returns : goal.returns
+returns c =
+    rw (needed-is c.args.self.now)
+    (omega (arith, c.page_count.ensures.count, c.tables.ensures.count, c.tables-2.ensures.count))

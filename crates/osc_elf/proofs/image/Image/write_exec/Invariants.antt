@@ -1,0 +1,8 @@
+use Rattle.std.proofs.Common.{◌≡◌, ℕ, ◌+◌, ◌/◌, ◌<◌, ◌≤◌, None, false, length, map}
+use Rattle.osc_image.specs.Image.{bits_at, pages_below}
+use Rattle.osc_image.specs.Form.{is_write_exec}
+use Rattle.osc_elf.proofs.Counting.{Counted}
+use Rattle.osc_elf.proofs.image.Image.write_exec.Given as goal
+
+abbrev pub invariant-loop-page : goal.invariant-loop-page
+invariant-loop-page l = (page : ℕ) → page < l.page → is_write_exec l.self.segments page ≡ false

@@ -1,0 +1,4 @@
+pub mod Image
+pub mod Frames
+pub mod Form
+pub mod Reading

@@ -1,0 +1,2 @@
+pub use Rattle.osc_isa.specs.Numbers
+pub use Rattle.osc_isa.specs.Integer

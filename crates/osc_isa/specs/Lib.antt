@@ -1,0 +1,6 @@
+pub use Rattle.osc_rv.specs.Bits
+pub use Rattle.osc_rv.specs.Instr
+pub use Rattle.osc_word.specs.Registers
+pub mod Numbers
+pub mod Integer
+pub mod Traps

@@ -1,0 +1,7 @@
+pub mod WordLists
+pub mod TableLists
+pub mod Kept
+pub mod Walked
+pub mod Needed
+pub mod TableLawProofs
+pub mod CacheLawProofs

@@ -1,0 +1,142 @@
+-- The laws of tables.
+use Rattle.std.proofs.Common.{ℕ, zero, suc, ◌≡◌, ◌≢◌, ◌<◌, ◌≤◌, ◌/◌, ◌^◌, ◌-◌, ◌*◌, ◌+◌, Bool, true, false, List, [], ◌∷◌, Option, Some, None, arith, refl, ap, ◌∙◌, subst, length, slice_get, cond}
+use Rattle.std.proofs.lemmas.Bool.Decides.{nat_tests}
+use Rattle.std.proofs.lemmas.List.{length-set}
+use Rattle.std.proofs.Math.Nat.{pow-succ', mod-lt}
+use Rattle.osc_sv39.specs.declared.entries.Mapping.{Mapping}
+use Rattle.osc_sv39.specs.declared.entries.PteEntry.TheVariants.{Absent}
+use Rattle.osc_sv39.specs.Entries.{word_of}
+use Rattle.osc_sv39.specs.Walk.{piece, word_at, put_word, is_canonical, frame_allowed, number_of}
+use Rattle.osc_paging.specs.declared.Piece.{Piece}
+use Rattle.osc_paging.specs.declared.TableFrame.{TableFrame}
+use Rattle.osc_paging.specs.JobWords.{zeroed}
+use Rattle.osc_paging.specs.KeptTables.{KeptTables, mapping_at, frame_of, piece_of, child, closed, need, missing}
+use Rattle.osc_paging.specs.TableChanges.{Changed, opened, unlinked, leaf_put, leaf_taken, link_all}
+use Rattle.osc_paging.specs.Agree.{Agrees, AgreesAfter}
+use Rattle.osc_paging.specs.TableLaws.{WalkGivesMapping, OpeningAgrees, MappingKeeps, UnmappingKeeps, ReclaimingKeeps, GivingKeeps, MappingTakesNeed, MappingsTakeNeed, StoresElsewhereKeep}
+use Rattle.osc_paging.proofs.WordLists.{get_or-set, zeroed_at, length-zeroed}
+use Rattle.osc_paging.proofs.Kept.{put-agrees, take-agrees, unlinked-agrees, give-agrees, link_all-agrees}
+use Rattle.osc_paging.proofs.Walked.{walks}
+use Rattle.osc_paging.proofs.Needed.{maps, maps_all}
+
+piece-div : (l n : ℕ) → piece (suc l) n ≡ piece l (n / 512)
+piece-div zero n = refl
+piece-div (suc l) n = ap (λ k. k / 512) (piece-div l n)
+
+pub piece-top : (l n : ℕ) → n < 512 ^ l → piece l n ≡ 0
+piece-top zero n s = omega arith
+piece-top (suc l) n s =
+    let p : n < 512 * 512 ^ l = rw pow-succ' at s in
+    piece-div l n ∙ piece-top l (n / 512) (omega arith)
+
+positive : (l : ℕ) → 0 < 512 ^ l
+positive zero = omega arith
+positive (suc l) = rw pow-succ' (let h = positive l in omega arith)
+
+pub walk_gives_mapping : WalkGivesMapping
+walk_gives_mapping top t free words root address access g e =
+    let page = address / 4096 in
+    let under : suc top - 1 ≡ top = omega arith in
+    let low : number_of (suc top) page < 512 ^ suc top = mod-lt page (positive (suc top)) in
+    let here : frame_of t.tables top (piece (suc top) (number_of (suc top) page)) ≡ Some root = rw (piece-top (suc top) (number_of (suc top) page) low) e in
+    rw (under, walks top t free words top (number_of (suc top) page) root g (omega arith) here) (chosen (is_canonical (suc top) page) (mapping_at t.pages (number_of (suc top) page)))
+  where
+    chosen : (b : Bool) (found : Option Mapping) → cond b (frame_allowed access found) None ≡ frame_allowed access (cond b found None)
+    chosen true found = refl
+    chosen false found = refl
+
+pub opening_agrees : OpeningAgrees
+opening_agrees top count room root free words size small taken zeros = record {
+  size = size;
+  small = small;
+  apart = (refl, refl, tt);
+  taken = λ f p e. taken_at f p e;
+  parents = parents;
+  leaves = λ n m e. cc;
+  agree = agree;
+  spare = λ f p e. cc;
+  zeros = λ f i p s e. cc;
+}
+  where
+    t : KeptTables
+    t = opened top root (closed count room)
+
+    only : (f : ℕ) (p : Piece) → piece_of t.tables f ≡ Some p → (root ≡ f) × (record { level = top; number = 0 } ≡ p)
+    only f p e = grind (arith, nat_tests, e)
+
+    taken_at : (f : ℕ) (p : Piece) → piece_of t.tables f ≡ Some p → slice_get free f ≡ Some false
+    taken_at f p e = subst (λ g. slice_get free g ≡ Some false) (only f p e).0 taken
+
+    childless : (l n : ℕ) → l ≤ top → child t l n ≡ Absent
+    childless zero n s = refl
+    childless (suc l) n s = grind (arith, nat_tests)
+
+    parents : (l n : ℕ) → l ≤ top → child t l n ≢ Absent → frame_of t.tables l (n / 512) ≢ None
+    parents l n s h = absurd (h (childless l n s))
+
+    agree : (f i : ℕ) (p : Piece) → i < 512 → piece_of t.tables f ≡ Some p → word_at words f i ≡ word_of (child t p.level (p.number * 512 + i))
+    agree f i p s e =
+        let o = only f p e in
+        let here : word_at words root i ≡ word_of (child t top (0 * 512 + i)) = rw (childless top (0 * 512 + i) (omega arith)) (zeros i s) in
+        subst (λ (q : Piece). word_at words f i ≡ word_of (child t q.level (q.number * 512 + i))) o.1
+        (subst (λ g. word_at words g i ≡ word_of (child t top (0 * 512 + i))) o.0 here)
+
+pub mapping_keeps : MappingKeeps
+mapping_keeps entries top words c number m reads g = go _ refl
+  where
+    d : Changed
+    d = link_all top number c
+
+    go : (x : Option ℕ) → frame_of d.tables.tables 0 (number / 512) ≡ x → AgreesAfter entries top words (leaf_put number m x d)
+    go None e = link_all-agrees entries top c words top number (omega arith) g
+    go (Some t) e = put-agrees entries top d words number m t reads e (link_all-agrees entries top c words top number (omega arith) g)
+
+pub unmapping_keeps : UnmappingKeeps
+unmapping_keeps entries top words c number g = go _ refl
+  where
+    go : (x : Option ℕ) → frame_of c.tables.tables 0 (number / 512) ≡ x → AgreesAfter entries top words (leaf_taken number x c)
+    go None e = g
+    go (Some t) e = take-agrees entries top c words number t e g
+
+pub reclaiming_keeps : ReclaimingKeeps
+reclaiming_keeps entries top words c leaf s empty g = go _ _ refl refl
+  where
+    go : (x y : Option ℕ) → frame_of c.tables.tables 0 leaf ≡ x → frame_of c.tables.tables 1 (leaf / 512) ≡ y → AgreesAfter entries top words (unlinked leaf x y c)
+    go None y e f = g
+    go (Some t) None e f = g
+    go (Some t) (Some p) e f = unlinked-agrees entries top c words leaf t p s empty e f g
+
+pub giving_keeps : GivingKeeps
+giving_keeps entries top words c g = give-agrees entries top c words g
+
+pub mapping_takes_need : MappingTakesNeed
+mapping_takes_need top number root m c e s n = maps top number root m c (rw (piece-top (suc top) number s) e) n
+
+none_needed : (ts : List TableFrame) (l number : ℕ) → need ts l number 0 ≡ 0
+unfolding need missing
+none_needed ts zero number = refl
+none_needed ts (suc l) number = let h = none_needed ts l number in omega arith
+
+pub mappings_take_need : MappingsTakeNeed
+mappings_take_need top number root [] c e s n = rw (none_needed c.tables.tables top number) (omega arith)
+mappings_take_need top number root (m ∷ ms) c e s n = maps_all top number root m ms c e (piece-top (suc top) (number + length ms) (omega arith)) n
+
+-- words that are the same at all tables agree
+same-agrees : (top : ℕ) (t : KeptTables) (free : List Bool) (words now : List ℕ) (g : ℕ) → Agrees top t free words → length now ≡ length words → piece_of t.tables g ≡ None → piece_of t.aside g ≡ None → ((f i : ℕ) → i < 512 → f ≢ g → word_at now f i ≡ word_at words f i) → Agrees top t free now
+same-agrees top t free words now g k l none out same = record {
+  size = l ∙ k.size;
+  small = k.small;
+  apart = k.apart;
+  taken = k.taken;
+  parents = k.parents;
+  leaves = k.leaves;
+  agree = λ f i p s e. same f i s (λ d. (let h = subst (λ x. piece_of t.tables x ≡ Some p) d e in cc)) ∙ k.agree f i p s e;
+  spare = k.spare;
+  zeros = λ f i p s e. same f i s (λ d. (let h = subst (λ x. piece_of t.aside x ≡ Some p) d e in cc)) ∙ k.zeros f i p s e;
+}
+
+pub stores_elsewhere_keep : StoresElsewhereKeep
+stores_elsewhere_keep top t free words g k none out = record {
+  stored = λ i v s. same-agrees top t free words (put_word words g i v) g k (length-set words _ v) none out (λ f j q d. grind (arith, nat_tests, get_or-set words (g * 512 + i) (f * 512 + j) v));
+  zeroed = λ i count s. same-agrees top t free words (zeroed (g * 512 + i) count words) g k (length-zeroed count _ words) none out (λ f j q d. grind (arith, nat_tests, zeroed_at count (g * 512 + i) words (f * 512 + j)));
+}

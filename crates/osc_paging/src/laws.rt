@@ -1,0 +1,47 @@
+//! The laws of kept tables and of caches. Each function does nothing: what it says is proved of
+//! the definitions, for any number of levels.
+
+ghost use Rattle.osc_paging.specs.TableLaws.{
+  WalkGivesMapping,
+  OpeningAgrees,
+  MappingKeeps,
+  UnmappingKeeps,
+  ReclaimingKeeps,
+  GivingKeeps,
+  MappingTakesNeed,
+  MappingsTakeNeed,
+  StoresElsewhereKeep,
+};
+ghost use Rattle.osc_paging.specs.CacheLaws.{LookFindsLatest};
+
+/// Where the words of memory agree with kept tables, a walk over the words gives exactly the kept
+/// mapping, for each address and access.
+pub fn walk_gives_mapping()
+    ensures { WalkGivesMapping }
+{}
+
+/// Words that agree with kept tables, once the pending jobs are done, agree again after the jobs
+/// of each change.
+pub fn changes_keep_agreement()
+    ensures opening { OpeningAgrees }
+    ensures mapping { MappingKeeps }
+    ensures unmapping { UnmappingKeeps }
+    ensures reclaiming { ReclaimingKeeps }
+    ensures giving { GivingKeeps }
+{}
+
+/// A mapping takes exactly the frames that are needed, and so do ascending mappings together.
+pub fn mapping_takes_need()
+    ensures one { MappingTakesNeed }
+    ensures many { MappingsTakeNeed }
+{}
+
+/// Stores in frames that are no tables keep the agreement.
+pub fn stores_elsewhere_keep()
+    ensures { StoresElsewhereKeep }
+{}
+
+/// A cache gives only what was filled since its last clear, and the latest at a place.
+pub fn look_finds_latest()
+    ensures { LookFindsLatest }
+{}

@@ -1,0 +1,2 @@
+pub mod FlagTests
+pub mod EntriesBack
