@@ -165,3 +165,6 @@ impl CanonHeap {
         areas::clear_all(&mut self.areas);
     }
 }
+
+#[cfg(test)]
+mod tests;
