@@ -113,6 +113,7 @@ impl CanonHeap {
         ensures heap { self.new ≡ (place self.old room frames.old).heap }
         ensures free { frames.new ≡ (place self.old room frames.old).free }
         ensures frames_agree { FramesAgree self.new frames.new }
+        ensures same_frames { self.new.frames ≡ self.old.frames }
         ensures add_up { free_count frames.new + length self.new.pages ≡ free_count frames.old + length self.old.pages }
         ensures valid { IsHeap self.new }
     {
@@ -131,6 +132,7 @@ impl CanonHeap {
         ensures heap { self.new ≡ (release self.old block frames.old).heap }
         ensures free { frames.new ≡ (release self.old block frames.old).free }
         ensures frames_agree { FramesAgree self.new frames.new }
+        ensures same_frames { self.new.frames ≡ self.old.frames }
         ensures add_up { free_count frames.new + length self.new.pages ≡ free_count frames.old + length self.old.pages }
         ensures valid { IsHeap self.new }
     {
@@ -157,6 +159,7 @@ impl CanonHeap {
         ensures heap { self.new ≡ (clear self.old frames.old).heap }
         ensures free { frames.new ≡ (clear self.old frames.old).free }
         ensures frames_agree { FramesAgree self.new frames.new }
+        ensures same_frames { self.new.frames ≡ self.old.frames }
         ensures add_up { free_count frames.new ≡ free_count frames.old + length self.old.pages }
         ensures valid { IsHeap self.new }
     {

@@ -3,16 +3,17 @@
 use super::*;
 use osc_class::room_of;
 use std::collections::BTreeSet;
+use std::process::Abort;
 use std::test::Fail;
 
-ghost use Rattle.std.specs.Prelude.{◌≤◌, IfOk};
+ghost use Rattle.std.specs.Prelude.{◌≡◌, ◌≤◌, IfOk};
 ghost use Rattle.osc_class.specs.Rooms.{IsRoom};
-ghost use Rattle.osc_slot.specs.Heap.{FramesAgree};
+ghost use Rattle.osc_slot.specs.Heap.{IsHeap, FramesAgree, empty_heap};
 
 /// An empty heap and the frames of its machine.
 fn machine(alloc: Global, count: u32) -> Result<(CanonHeap, Frames), AllocError>
     requires { count ≤ 4096 }
-    ensures { IfOk result (λ made. FramesAgree made.0 made.1) }
+    ensures { IfOk result (λ made. FramesAgree made.0 made.1 × (made.0.frames ≡ count)) }
 {
     let heap = CanonHeap::new(alloc, count)?;
     let frames = Frames::new(alloc, count)?;
@@ -24,7 +25,8 @@ fn machine(alloc: Global, count: u32) -> Result<(CanonHeap, Frames), AllocError>
 fn try_place(heap: &mut CanonHeap, frames: &mut Frames, room: Room) -> Option<Block>
     requires is_room { IsRoom room }
     requires agree { FramesAgree heap.old frames.old }
-    ensures { FramesAgree heap.new frames.new }
+    ensures agree { FramesAgree heap.new frames.new }
+    ensures frames { (heap.new.frames ≡ heap.old.frames) × IsHeap heap.new }
 {
     if heap.need(room) <= u64::from(frames.free_count()) {
         Some(heap.place(room, frames))
@@ -51,7 +53,8 @@ fn try_release(heap: &mut CanonHeap, frames: &mut Frames, user: u64) -> bool
 fn placed(heap: &mut CanonHeap, frames: &mut Frames, room: Room) -> u64
     requires is_room { IsRoom room }
     requires agree { FramesAgree heap.old frames.old }
-    ensures { FramesAgree heap.new frames.new }
+    ensures agree { FramesAgree heap.new frames.new }
+    ensures frames { (heap.new.frames ≡ heap.old.frames) × IsHeap heap.new }
 {
     match try_place(heap, frames, room) {
         Some(block) => block.start,
@@ -95,12 +98,26 @@ fn places_and_releases(rt: HostRuntime) -> Result<(), Fail> {
     Ok(())
 }
 
+/// Copies a heap of a machine of two frames, so that they change places.
+fn copy_turned(heap: &CanonHeap, child: &mut CanonHeap)
+    requires heap { (heap.now.frames ≡ 2) × IsHeap heap.now }
+    requires child { child.old ≡ empty_heap 2 }
+{
+    heap.copy_to(child, &[1, 0]);
+}
+
 #[test]
 fn copies_over_other_frames(rt: HostRuntime) -> Result<(), Fail> {
-    let heap = CanonHeap::new(rt.alloc(), 4)?;
-    let mut child = CanonHeap::new(rt.alloc(), 4)?;
-    heap.copy_to(&mut child, &[3, 2, 1, 0]);
-    assert_eq!(rt; child.block_at(0x20_0000_4010), None);
+    let (mut heap, mut frames) = machine(rt.alloc(), 2)?;
+    let mut child = CanonHeap::new(rt.alloc(), 2)?;
+    assert_eq!(rt; placed(&mut heap, &mut frames, Room::Small(0)), 0x20_0000_0000);
+    assert_eq!(rt; placed(&mut heap, &mut frames, Room::Pages(1)), 0x20_0001_A000);
+    copy_turned(&heap, &mut child);
+    assert_eq!(rt; child.frame_at(0x200_0000), Some(1));
+    assert_eq!(rt; child.frame_at(0x200_001A), Some(0));
+    assert_eq!(rt; child.frame_at(0x200_001B), None);
+    assert!(rt; child.block_at(0x20_0001_A010).is_some());
+    assert_eq!(rt; child.block_at(0x20_0001_A010), heap.block_at(0x20_0001_A010));
     Ok(())
 }
 
@@ -198,4 +215,104 @@ fn plain_rooms(alloc: Global) -> Result<Vec<Plain>, AllocError> {
         })?;
     }
     Ok(rooms)
+}
+
+/// The frames that all rooms' blocks have.
+fn used_frames(alloc: Global, rooms: &[Plain], frames: u64) -> Result<u64, AllocError> {
+    let mut used: u64 = 0;
+    for plain in rooms {
+        used = used.wrapping_add(plain.used(alloc, frames)?);
+    }
+    Ok(used)
+}
+
+/// Places the next block of a room, and compares it with the set. Where a block was placed, it answers
+/// its slot.
+fn place_alike(rt: &(impl Abort + AllocGlobal), heap: &mut CanonHeap, frames: &mut Frames, plain: &Plain, count: u64) -> Result<Option<u64>, AllocError>
+    requires { FramesAgree heap.old frames.old }
+    ensures { FramesAgree heap.new frames.new }
+{
+    let room = room_of(plain.request);
+    let (slot, need) = plain.next(rt.alloc(), count)?;
+    assert_eq!(rt; heap.need(room), need);
+    if need > u64::from(frames.free_count()) {
+        return Ok(None);
+    }
+    let block = try_place(heap, frames, room);
+    assert_eq!(rt; block.map(|block| block.start), slot.map(|slot| plain.start(count, slot)));
+    Ok(slot)
+}
+
+/// Places a block of one of the rooms.
+fn place_step(rt: &(impl Abort + AllocGlobal), heap: &mut CanonHeap, frames: &mut Frames, rooms: &mut [Plain], live: &mut Vec<(usize, u64)>, pick: usize, count: u64) -> Result<(), AllocError>
+    requires { FramesAgree heap.old frames.old }
+    ensures { FramesAgree heap.new frames.new }
+{
+    let at = pick % SIZES.len();
+    let Some(plain) = rooms.get_mut(at) else {
+        return Ok(());
+    };
+    let Some(slot) = place_alike(rt, heap, frames, plain, count)? else {
+        return Ok(());
+    };
+    plain.held.insert(slot)?;
+    live.push((at, slot))?;
+    Ok(())
+}
+
+/// Releases one of the live blocks.
+fn release_step(rt: &(impl Abort + AllocGlobal), heap: &mut CanonHeap, frames: &mut Frames, rooms: &mut [Plain], live: &mut Vec<(usize, u64)>, pick: usize, count: u64)
+    requires { FramesAgree heap.old frames.old }
+    ensures { FramesAgree heap.new frames.new }
+{
+    let at = pick.checked_rem(live.len()).unwrap_or(0);
+    if at >= live.len() {
+        return;
+    }
+    let (room, slot) = live.swap_remove(at);
+    let Some(plain) = rooms.get_mut(room) else {
+        return;
+    };
+    let user = plain.start(count, slot).wrapping_add(16);
+    assert!(rt; plain.held.remove(&slot));
+    assert!(rt; try_release(heap, frames, user));
+}
+
+/// One step of an alternation: for 200 steps more is placed than released, and then the other way round.
+fn step(rt: &(impl Abort + AllocGlobal), heap: &mut CanonHeap, frames: &mut Frames, rooms: &mut [Plain], live: &mut Vec<(usize, u64)>, state: u64, number: u32, count: u64) -> Result<(), AllocError>
+    requires { FramesAgree heap.old frames.old }
+    ensures { FramesAgree heap.new frames.new }
+{
+    let pick = (state >> 33) as usize;
+    let mixed = (state >> 20) % 8 < 2;
+    if (mixed && pick % 2 == 0) || (!mixed && number % 400 < 200) {
+        return place_step(rt, heap, frames, rooms, live, pick, count);
+    }
+    release_step(rt, heap, frames, rooms, live, pick, count);
+    Ok(())
+}
+
+/// So many steps, each of which places or releases a block of one of the rooms.
+fn alternate(rt: &(impl Abort + AllocGlobal), count: u32, steps: u32) -> Result<(), AllocError>
+    requires { count ≤ 4096 }
+{
+    let (mut heap, mut frames) = machine(rt.alloc(), count)?;
+    let mut rooms = plain_rooms(rt.alloc())?;
+    let mut live: Vec<(usize, u64)> = Vec::new(rt.alloc());
+    let all = u64::from(count);
+    let mut state: u64 = all;
+    for number in 0..steps {
+        state = state.wrapping_mul(6364136223846793005).wrapping_add(1442695040888963407);
+        step(rt, &mut heap, &mut frames, &mut rooms, &mut live, state, number, all)?;
+        let used = used_frames(rt.alloc(), &rooms, all)?;
+        assert_eq!(rt; u64::from(frames.free_count()), all.saturating_sub(used));
+    }
+    Ok(())
+}
+
+#[test]
+fn agrees_with_sets_of_held_slots(rt: HostRuntime) -> Result<(), Fail> {
+    alternate(&rt, 64, 3000)?;
+    alternate(&rt, 4096, 1200)?;
+    Ok(())
 }

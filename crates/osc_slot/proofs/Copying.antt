@@ -27,6 +27,7 @@ clear_keeps heap free h f =
     let given = free_count-give_back heap.frames heap.pages free f.taken h.frames_apart in
     record {
       is_heap = empty_is_heap heap.frames;
+      same_frames = refl;
       frames_agree = record { count = length-give_back heap.pages free ∙ f.count; taken = tt };
       add_up = omega arith;
       stays = λ page there still. absurd (cc);

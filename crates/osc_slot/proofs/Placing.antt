@@ -143,6 +143,7 @@ keeps_at heap room free h f r n x =
         frames_apart = backed.backs.frames_apart;
         count = more ∙ ap (λ c. need heap.frames heap.held room + c) h.count ∙ sym x.fresh.more;
       };
+      same_frames = refl;
       frames_agree = record { count = backed.backs.count; taken = backed.backs.taken };
       add_up = omega arith;
       stays = λ q there still. backed.stays q (h.covered q ∙ there);

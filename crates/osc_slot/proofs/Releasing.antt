@@ -170,6 +170,7 @@ release_keeps heap block free h f e = go (last heap block h e)
             frames_apart = frames-filter heap.frames (λ (p : HeapPage). is_covered (without_block block heap.held) p.page) heap.pages h.frames_apart;
             count = omega arith;
           };
+          same_frames = refl;
           frames_agree = record {
             count = length-give_back (filter (λ (p : HeapPage). not (is_covered (without_block block heap.held) p.page)) heap.pages) free ∙ f.count;
             taken = taken-give_back heap.frames (λ (p : HeapPage). is_covered (without_block block heap.held) p.page) heap.pages free f.taken h.frames_apart;

@@ -126,6 +126,7 @@ free_count free = count_by (λ f. f) free
 -- what each change of a heap keeps: free and held frames add up, and a page that held a block and still does keeps its frame
 pub record Keeps (heap : Heap) (free : List Bool) (now : HeapAndFree) : Type 0 where
   pub is_heap : IsHeap now.heap
+  pub same_frames : now.heap.frames ≡ heap.frames
   pub frames_agree : FramesAgree now.heap now.free
   pub add_up : free_count now.free + length now.heap.pages ≡ free_count free + length heap.pages
   pub stays : (page : ℕ) → is_covered heap.held page ≡ true → is_covered now.heap.held page ≡ true → frame_of now.heap.pages page ≡ frame_of heap.pages page

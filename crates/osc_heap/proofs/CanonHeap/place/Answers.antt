@@ -1,7 +1,8 @@
 -- What was found is the next slot, and what is left is the heap with the block.
-use Rattle.std.proofs.Common.{rules, ◌≡◌, ◌≤◌, ◌+◌, Some, length, arith, sym, ◌∙◌}
+use Rattle.std.proofs.Common.{rules, ◌≡◌, ◌≤◌, ◌+◌, Some, length, arith, sym, ap, ◌∙◌}
 use Rattle.std.specs.Vec.{vec_len, vec_capacity}
 use Rattle.osc_slot.specs.Slots.{slot, need_over}
+use Rattle.osc_slot.specs.Heap.{Heap}
 use Rattle.osc_heap.specs.Layout.{bits}
 use Rattle.osc_heap.proofs.Parts.{to_place, some_slot, chosen, placed}
 use Rattle.osc_heap.proofs.CanonHeap.place.Goals as goal
@@ -51,6 +52,7 @@ returns c =
       heap = rw c.set_slot.ensures d.heap_is;
       free = d.freed;
       frames_agree = rw c.set_slot.ensures d.agree;
+      same_frames = ap (λ (h : Heap). h.frames) c.self.view_is;
       add_up = d.add_up;
       valid = rw c.set_slot.ensures d.valid;
     }

@@ -1,9 +1,10 @@
 -- The slot that the block's start tells is its own, and what is left is the heap without the block.
-use Rattle.std.proofs.Common.{rules, ◌≡◌, ◌≤◌, ◌<◌, ◌+◌, ◌/◌, false, length, arith, sym, ◌∙◌}
+use Rattle.std.proofs.Common.{rules, ◌≡◌, ◌≤◌, ◌<◌, ◌+◌, ◌/◌, false, length, arith, sym, ap, ◌∙◌}
 use Rattle.std.specs.Vec.{vec_len, vec_capacity}
 use Rattle.osc_class.specs.Rooms.{shadow_pages}
 use Rattle.osc_slot.specs.Areas.{area_of}
 use Rattle.osc_slot.specs.Slots.{pages_alone}
+use Rattle.osc_slot.specs.Heap.{Heap}
 use Rattle.osc_heap.specs.Layout.{bits, with_bit}
 use Rattle.osc_heap.proofs.Parts.{to_release, lies, same_lie, released, alone_le}
 use Rattle.osc_heap.proofs.CanonHeap.release.Goals as goal
@@ -50,6 +51,7 @@ returns c =
       heap = rw c.set_slot.ensures d.heap_is;
       free = d.freed;
       frames_agree = rw c.set_slot.ensures d.agree;
+      same_frames = ap (λ (h : Heap). h.frames) c.self.view_is;
       add_up = d.add_up;
       valid = rw c.set_slot.ensures d.valid;
     }
