@@ -70,13 +70,13 @@ more_in_area frames area room slot (suc at) (row ∷ rows) r s z l m e =
     let later = more_in_area frames (area + 1) room slot at rows r (omega arith) z.1 l (omega arith) e in
     let g = later_area frames area (area_of room) (omega arith) in
     let first = past_row frames (room_at area) 0 (block_at_slot frames room slot) row (blocks_from frames (area + 1) rows) (λ k m n.
-          (let long = z.0 in
-          let here = before_next frames (room_at area) k (room_at_is_room area) (omega arith) in
-          let is = area_of_room_at area in
-          let there = after_area frames room slot in
-          let mul = suc-mul area frames in
-          let last : 4096 * (first_page + (area_of (room_at area) + 1) * frames) ≤ 4096 * (first_page + area_of room * frames) = rw is (omega arith) in
-          omega arith)) in
+    (let long = z.0 in
+    let here = before_next frames (room_at area) k (room_at_is_room area) (omega arith) in
+    let is = area_of_room_at area in
+    let there = after_area frames room slot in
+    let mul = suc-mul area frames in
+    let last : 4096 * (first_page + (area_of (room_at area) + 1) * frames) ≤ 4096 * (first_page + area_of room * frames) = rw is (omega arith) in
+    omega arith)) in
     first ∙ ap (λ bs. blocks_of_row frames (room_at area) 0 row bs) later
 
 -- a row without a block of none of its slots

@@ -39,7 +39,7 @@ given_one first count pages rest at x free e l is low high can =
       out = rw (head, here, gone) refl;
       given = rw (in_head, gone) refl;
       frame = can_head.0;
-      taken = rw gone can_head.1
+      taken = rw gone can_head.1;
     }
 
 -- pages whose frames are taken and all different can be given back

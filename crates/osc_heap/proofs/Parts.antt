@@ -90,7 +90,7 @@ spot frames rows pages room free capacity p f r n =
       area = area;
       row = omega arith;
       fits = omega arith;
-      small = omega arith
+      small = omega arith;
     }
 
 length-with_bit : (rows : List (List Bool)) (room : Room) (i : ℕ) (t : Bool) → length (with_bit rows room i t) ≡ length rows
@@ -110,8 +110,8 @@ put_there b held = any-insert (λ (c : Block). c.start) (λ c. is_block b c) b h
 pub placed_parts : (frames : ℕ) (rows : List (List Bool)) (pages : List HeapPage) (room : Room) (free : List Bool) (capacity : ℕ) (p : AreParts frames rows pages capacity) (f : FramesAgree (heap_of frames rows pages) free) (r : IsRoom room)
     (n : need frames (blocks_from frames 0 rows) room ≤ free_count free) (s : Spot frames rows pages room free capacity) (after : ℕ) → capacity ≤ after
     → PlacedParts frames rows pages room free s.next.slot
-        (back (need frames (blocks_from frames 0 rows) room) (start_of frames room s.next.slot / 4096) (record { pages = pages; free = free })).pages
-        (back (need frames (blocks_from frames 0 rows) room) (start_of frames room s.next.slot / 4096) (record { pages = pages; free = free })).free after
+    (back (need frames (blocks_from frames 0 rows) room) (start_of frames room s.next.slot / 4096) (record { pages = pages; free = free })).pages
+    (back (need frames (blocks_from frames 0 rows) room) (start_of frames room s.next.slot / 4096) (record { pages = pages; free = free })).free after
 placed_parts frames rows pages room free capacity p f r n s after l =
     let keeps = place_keeps (heap_of frames rows pages) room free p.is_heap f r n in
     let is = place_is (heap_of frames rows pages) room free r s.next in
@@ -120,7 +120,7 @@ placed_parts frames rows pages room free capacity p f r n s after l =
     let held : with_block (block_at_slot frames room s.next.slot) (blocks_from frames 0 rows) ≡ blocks_from frames 0 (with_bit rows room s.next.slot true) = more_in_area frames 0 room s.next.slot (area_of room) rows r (omega arith) p.sized s.next.found.within s.area is_free in
     let b : Backing = back (need frames (blocks_from frames 0 rows) room) (page_of frames room s.next.slot) (record { pages = pages; free = free }) in
     let heap : heap_of frames (with_bit rows room s.next.slot true) b.pages ≡ (place (heap_of frames rows pages) room free).heap =
-          ap (λ blocks. record { frames = frames; held = blocks; pages = b.pages }) (sym held) ∙ sym (ap (λ (now : HeapAndFree). now.heap) is) in
+    ap (λ blocks. record { frames = frames; held = blocks; pages = b.pages }) (sym held) ∙ sym (ap (λ (now : HeapAndFree). now.heap) is) in
     let P : Heap → Type 0 = λ h. IsHeap h in
     let sizes = length-with_bit rows room s.next.slot true in
     let areas = p.areas in
@@ -134,9 +134,9 @@ placed_parts frames rows pages room free capacity p f r n s after l =
         areas = omega arith;
         sized = sized-set frames 0 (area_of room) s.next.slot true rows p.sized;
         is_heap = subst P (sym heap) keeps.is_heap;
-        room_for_all = omega arith
+        room_for_all = omega arith;
       };
-      keeps = keeps
+      keeps = keeps;
     })
 
 -- a held block among the parts
@@ -156,7 +156,7 @@ held_parts frames rows pages block capacity p e =
     let size = room_sized frames rows block.room x.room p.sized area in
     let within = x.within in
     let out : without_block block (blocks_from frames 0 rows) ≡ blocks_from frames 0 (with_bit rows block.room x.slot false) =
-          ap (λ b. without_block b (blocks_from frames 0 rows)) x.is ∙ less_in_area frames 0 block.room x.slot (area_of block.room) rows x.room (omega arith) area (omega arith) in
+    ap (λ b. without_block b (blocks_from frames 0 rows)) x.is ∙ less_in_area frames 0 block.room x.slot (area_of block.room) rows x.room (omega arith) area (omega arith) in
     record {
       last = x;
       within = x.within;
@@ -164,7 +164,7 @@ held_parts frames rows pages block capacity p e =
       row = omega arith;
       start = ap (λ (b : Block). b.start) x.is;
       out = out;
-      n = x.n_is ∙ ap (λ held. new_pages frames held block.room x.slot) out
+      n = x.n_is ∙ ap (λ held. new_pages frames held block.room x.slot) out;
     }
 
 alone_small : ℕ → ℕ → (ℕ → Bool) → ℕ
@@ -187,7 +187,7 @@ stays_is : (frames : ℕ) (rows : List (List Bool)) (pages : List HeapPage) (blo
     → filter (out_of_range (page_of frames block.room s.last.slot) s.last.n) pages ≡ filter (λ (p : HeapPage). is_covered (without_block block (blocks_from frames 0 rows)) p.page) pages
 stays_is frames rows pages block h s =
     filter_same (λ (p : HeapPage). p.page) (λ q. not (nat_le (page_of frames block.room s.last.slot) q && nat_lt q (page_of frames block.room s.last.slot + s.last.n))) (λ q. is_covered (without_block block (blocks_from frames 0 rows)) q) pages
-      (λ q e. turn (is_covered (without_block block (blocks_from frames 0 rows)) q) (nat_le (page_of frames block.room s.last.slot) q && nat_lt q (page_of frames block.room s.last.slot + s.last.n)) (emptied (heap_of frames rows pages) block s.last q (sym (h.covered q) ∙ sym (has_page pages q) ∙ e)))
+    (λ q e. turn (is_covered (without_block block (blocks_from frames 0 rows)) q) (nat_le (page_of frames block.room s.last.slot) q && nat_lt q (page_of frames block.room s.last.slot + s.last.n)) (emptied (heap_of frames rows pages) block s.last q (sym (h.covered q) ∙ sym (has_page pages q) ∙ e)))
   where
     turn : (t u : Bool) → not t ≡ u → not u ≡ t
     turn t u e = grind (arith, nat_tests)
@@ -196,7 +196,7 @@ goes_is : (frames : ℕ) (rows : List (List Bool)) (pages : List HeapPage) (bloc
     → filter (in_range (page_of frames block.room s.last.slot) s.last.n) pages ≡ filter (λ (p : HeapPage). not (is_covered (without_block block (blocks_from frames 0 rows)) p.page)) pages
 goes_is frames rows pages block h s =
     filter_same (λ (p : HeapPage). p.page) (λ q. nat_le (page_of frames block.room s.last.slot) q && nat_lt q (page_of frames block.room s.last.slot + s.last.n)) (λ q. not (is_covered (without_block block (blocks_from frames 0 rows)) q)) pages
-      (λ q e. sym (emptied (heap_of frames rows pages) block s.last q (sym (h.covered q) ∙ sym (has_page pages q) ∙ e)))
+    (λ q e. sym (emptied (heap_of frames rows pages) block s.last q (sym (h.covered q) ∙ sym (has_page pages q) ∙ e)))
 
 pub released_parts : (frames : ℕ) (rows : List (List Bool)) (pages : List HeapPage) (block : Block) (free : List Bool) (capacity : ℕ) (p : AreParts frames rows pages capacity) (f : FramesAgree (heap_of frames rows pages) free) (e : is_held (blocks_from frames 0 rows) block ≡ true)
     (s : Held frames rows pages block) (after : ℕ) → capacity ≤ after
@@ -208,8 +208,8 @@ released_parts frames rows pages block free capacity p f e s after l =
     let stays = stays_is frames rows pages block p.is_heap s in
     let goes = goes_is frames rows pages block p.is_heap s in
     let heap : heap_of frames (with_bit rows block.room s.last.slot false) (filter (out_of_range (page_of frames block.room s.last.slot) s.last.n) pages) ≡ (release (heap_of frames rows pages) block free).heap =
-          ap (λ blocks. record { frames = frames; held = blocks; pages = filter (out_of_range (page_of frames block.room s.last.slot) s.last.n) pages }) (sym s.out)
-          ∙ ap (λ now. record { frames = frames; held = without_block block (blocks_from frames 0 rows); pages = now }) stays in
+    ap (λ blocks. record { frames = frames; held = blocks; pages = filter (out_of_range (page_of frames block.room s.last.slot) s.last.n) pages }) (sym s.out)
+    ∙ ap (λ now. record { frames = frames; held = without_block block (blocks_from frames 0 rows); pages = now }) stays in
     let P : Heap → Type 0 = λ h. IsHeap h in
     let sizes = length-with_bit rows block.room s.last.slot false in
     let areas = p.areas in
@@ -222,9 +222,9 @@ released_parts frames rows pages block free capacity p f e s after l =
         areas = omega arith;
         sized = sized-set frames 0 (area_of block.room) s.last.slot false rows p.sized;
         is_heap = subst P (sym heap) keeps.is_heap;
-        room_for_all = omega arith
+        room_for_all = omega arith;
       };
-      keeps = keeps
+      keeps = keeps;
     })
 
 -- the frames of the block's own pages can be given back
@@ -271,7 +271,7 @@ chosen {frames} {rows} {pages} {capacity} {heap} {room} {free} t i e =
       area = s.area;
       row = (let P : ℕ → Type 0 = λ j. j < length (row_of rows room) in subst P same s.row);
       fits = omega arith;
-      small = omega arith
+      small = omega arith;
     }
 
 pub record Placed (frames : ℕ) (rows : List (List Bool)) (heap : Heap) (room : Room) (free : List Bool) (i : ℕ) (now : List HeapPage) (left : List Bool) (after : ℕ) : Type 0 where
@@ -288,8 +288,8 @@ pub record Placed (frames : ℕ) (rows : List (List Bool)) (heap : Heap) (room :
 -- the same over the heap that is seen
 placed_here : {frames : ℕ} {rows : List (List Bool)} {pages : List HeapPage} {capacity : ℕ} {heap : Heap} {room : Room} {free : List Bool} → (t : ToPlace frames rows pages capacity heap room free) (after : ℕ) → capacity ≤ after
     → Placed frames rows (heap_of frames rows pages) room free (spot_of t).next.slot
-        (back (need frames (blocks_from frames 0 rows) room) (start_of frames room (spot_of t).next.slot / 4096) (record { pages = pages; free = free })).pages
-        (back (need frames (blocks_from frames 0 rows) room) (start_of frames room (spot_of t).next.slot / 4096) (record { pages = pages; free = free })).free after
+    (back (need frames (blocks_from frames 0 rows) room) (start_of frames room (spot_of t).next.slot / 4096) (record { pages = pages; free = free })).pages
+    (back (need frames (blocks_from frames 0 rows) room) (start_of frames room (spot_of t).next.slot / 4096) (record { pages = pages; free = free })).free after
 placed_here {frames} {rows} {pages} {capacity} {heap} {room} {free} t after l =
     let s = spot_of t in
     let enough = (let P : Heap → Type 0 = λ h. need h.frames h.held room ≤ free_count free in subst P (sym t.is) t.enough) in
@@ -307,7 +307,7 @@ placed_here {frames} {rows} {pages} {capacity} {heap} {room} {free} t after l =
       parts = d.parts;
       agree = subst Q (sym d.freed) (subst P (sym d.heap) d.keeps.frames_agree);
       add_up = ap (λ f. free_count f + length (back (need frames (blocks_from frames 0 rows) room) (start_of frames room s.next.slot / 4096) (record { pages = pages; free = free })).pages) d.freed ∙ sum;
-      valid = d.parts.is_heap
+      valid = d.parts.is_heap;
     }
 
 pub placed : {frames : ℕ} {rows : List (List Bool)} {pages : List HeapPage} {capacity : ℕ} {heap : Heap} {room : Room} {free : List Bool} → (t : ToPlace frames rows pages capacity heap room free) (i : ℕ) → slot frames (bits rows) room ≡ Some i
@@ -321,11 +321,11 @@ placed {frames} {rows} {pages} {capacity} {heap} {room} {free} t i e now left af
     let needs = need_is frames rows room t.is_room in
     let P : Heap → Type 0 = λ h. Placed frames rows h room free i now left after in
     let Q : ℕ → Type 0 = λ j. Placed frames rows (heap_of frames rows pages) room free j
-          (back (need frames (blocks_from frames 0 rows) room) (start_of frames room j / 4096) (record { pages = pages; free = free })).pages
-          (back (need frames (blocks_from frames 0 rows) room) (start_of frames room j / 4096) (record { pages = pages; free = free })).free after in
+    (back (need frames (blocks_from frames 0 rows) room) (start_of frames room j / 4096) (record { pages = pages; free = free })).pages
+    (back (need frames (blocks_from frames 0 rows) room) (start_of frames room j / 4096) (record { pages = pages; free = free })).free after in
     let at : Placed frames rows (heap_of frames rows pages) room free i
-          (back (need frames (blocks_from frames 0 rows) room) (start_of frames room i / 4096) (record { pages = pages; free = free })).pages
-          (back (need frames (blocks_from frames 0 rows) room) (start_of frames room i / 4096) (record { pages = pages; free = free })).free after = subst Q same d in
+    (back (need frames (blocks_from frames 0 rows) room) (start_of frames room i / 4096) (record { pages = pages; free = free })).pages
+    (back (need frames (blocks_from frames 0 rows) room) (start_of frames room i / 4096) (record { pages = pages; free = free })).free after = subst Q same d in
     subst P t.is (rw (n, f, needs) at)
 
 -- what `release` finds and leaves, over its heap
@@ -380,7 +380,7 @@ lies {frames} {rows} {pages} {capacity} {heap} {block} {free} t =
       bound = omega arith;
       areas = omega arith;
       sized = sized-set frames 0 (area_of block.room) s.last.slot false rows t.parts.sized;
-      can_give_back = λ first count. can_release frames rows pages free capacity first count t.parts (rw t.is t.agree)
+      can_give_back = λ first count. can_release frames rows pages free capacity first count t.parts (rw t.is t.agree);
     }
 
 pub record Released (frames : ℕ) (rows : List (List Bool)) (heap : Heap) (block : Block) (free : List Bool) (i : ℕ) (now : List HeapPage) (left : List Bool) (after : ℕ) : Type 0 where
@@ -416,7 +416,7 @@ released_here {frames} {rows} {pages} {capacity} {heap} {block} {free} t after l
       parts = d.parts;
       agree = subst Q (sym d.freed) (subst P (sym d.heap) d.keeps.frames_agree);
       add_up = ap (λ f. free_count f + length (filter (out_of_range (block.start / 4096) s.last.n) pages)) d.freed ∙ sum;
-      valid = d.parts.is_heap
+      valid = d.parts.is_heap;
     }
 
 pub released : {frames : ℕ} {rows : List (List Bool)} {pages : List HeapPage} {capacity : ℕ} {heap : Heap} {block : Block} {free : List Bool} → (t : ToRelease frames rows pages capacity heap block free) (i n : ℕ)

@@ -100,6 +100,7 @@ held_from frames room area slot (row ∷ rows) r = go (area_of room == area) ref
     past false l e =
         let next : area_of room - area ≡ suc (area_of room - (area + 1)) = grind (arith, nat_tests) in
         rw next (grind (arith, nat_tests))
+
     go : (t : Bool) → (area_of room == area) ≡ t
         → is_held (blocks_from frames (area + 1) rows) (block_at_slot frames room slot) ≡ (nat_le (area + 1) (area_of room) && bit_at (slice_index_or rows (area_of room - (area + 1)) []) slot)
         → is_held (blocks_of_row frames (room_at area) 0 row (blocks_from frames (area + 1) rows)) (block_at_slot frames room slot) ≡ (nat_le area (area_of room) && bit_at (slice_index_or (row ∷ rows) (area_of room - area) []) slot)

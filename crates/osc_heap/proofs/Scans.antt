@@ -53,6 +53,7 @@ beside_page slots row page p = same ∙ by (page_held slots row page)
     same : least (λ slot. page_held slots row (slot / slots) && not (bit_at row slot)) (page * slots) slots ≡ least (λ slot. page_held slots row page && not (bit_at row slot)) (page * slots) slots
     same = least_same (λ slot. page_held slots row (slot / slots) && not (bit_at row slot)) (λ slot. page_held slots row page && not (bit_at row slot)) (page * slots) slots
         (λ i l m. ap (λ q. page_held slots row q && not (bit_at row i)) (div-eq_of_lt-le {k = page} slots l (omega arith)))
+
     by : (t : Bool) → least (λ slot. t && not (bit_at row slot)) (page * slots) slots ≡ cond t (least (λ slot. not (bit_at row slot)) (page * slots) slots) None
     by true = refl
     by false = least_none (page * slots) slots
@@ -124,7 +125,7 @@ pub insert_found : (new : HeapPage) (pages : List HeapPage) (place : Option ℕ)
 insert_found new pages place e =
     let l = prefix_len-le-length (λ (p : HeapPage). not (nat_le new.page p.page)) pages in
     let is : unwrap_or place (length pages) ≡ position_or_len (λ (p : HeapPage). nat_le new.page p.page) pages =
-          ap (λ x. unwrap_or x (length pages)) e ∙ past_all (nat_lt (position_or_len (λ (p : HeapPage). nat_le new.page p.page) pages) (length pages)) (position_or_len (λ (p : HeapPage). nat_le new.page p.page) pages) (length pages) l refl in
+    ap (λ x. unwrap_or x (length pages)) e ∙ past_all (nat_lt (position_or_len (λ (p : HeapPage). nat_le new.page p.page) pages) (length pages)) (position_or_len (λ (p : HeapPage). nat_le new.page p.page) pages) (length pages) l refl in
     rw is (sym (insert_at new pages))
 
 -- one more page of a range

@@ -69,6 +69,7 @@ no_slot_here frames rows pages capacity user start heap is p l s none =
     clash f =
         let at : f.block.start ≡ start = (let e = f.passes in grind (arith, nat_tests, e)) in
         none f.block.room f.placed.slot f.placed.room f.placed.within (sym at ∙ f.placed.start)
+
     go : (t : Bool) → has_number (λ (c : Block). c.start) start (blocks_from frames 0 rows) ≡ t → t ≡ false
     go true e = absurd (clash (found frames (λ b. b.start == start) (blocks_from frames 0 rows) p.is_heap.placed e))
     go false e = refl

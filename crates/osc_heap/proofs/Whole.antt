@@ -176,7 +176,7 @@ cleared_here frames rows pages capacity free after p f l =
       heap_is = view;
       parts = empty_parts frames (map free_row rows) after p.most free_rows (omega arith);
       agree = subst P (sym view) keeps.frames_agree;
-      add_up = omega arith
+      add_up = omega arith;
     }
 
 pub cleared : (frames : ℕ) (rows : List (List Bool)) (pages : List HeapPage) (capacity : ℕ) (heap : Heap) (free : List Bool) → heap_of frames rows pages ≡ heap → AreParts frames rows pages capacity → FramesAgree heap free
@@ -204,5 +204,5 @@ copied frames rows pages capacity heap names e p a others now renamed after o n 
     subst Q e (rw (o, n, r) (record {
       heap_is = refl;
       parts = record { most = p.most; areas = p.areas; sized = p.sized; is_heap = is; room_for_all = c };
-      valid = p.is_heap
+      valid = p.is_heap;
     }))

@@ -9,8 +9,6 @@ mod areas;
 mod pages;
 mod slots;
 
-pub use osc_slot::Block;
-
 ghost use Rattle.std.specs.Prelude.{◌≡◌, ◌+◌, ◌<◌, ◌≤◌, length, is_some, true, Some, IfOk, IfSome};
 ghost use Rattle.osc_class.specs.Rooms.{IsRoom};
 ghost use Rattle.osc_slot.specs.Slots.{is_held, is_covered, least_start, need};
@@ -19,6 +17,7 @@ ghost use Rattle.osc_slot.specs.Heap.{IsHeap, FramesAgree, AreNames, empty_heap,
 use crate::area::Area;
 use osc_class::Room;
 use osc_frames::Frames;
+pub use osc_slot::Block;
 use osc_slot::HeapPage;
 use std::alloc::{AllocError, Global};
 use std::marker::Model;

@@ -101,6 +101,10 @@ pub fn copy_all(pages: &[HeapPage], into: &mut Vec<HeapPage>, names: &[u32])
     ensures room { vec_capacity into.old ≤ vec_capacity into.new }
 {
     for page in pages {
-        into.push(HeapPage { page: page.page, frame: names[page.frame as usize] }).unwrap();
+        into.push(HeapPage {
+            page: page.page,
+            frame: names[page.frame as usize],
+        })
+        .unwrap();
     }
 }

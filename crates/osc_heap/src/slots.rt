@@ -96,7 +96,8 @@ pub fn slot_near(frames: u32, room: Room, start: u64) -> usize
 {
     let page = (start / PAGE - FIRST_PAGE) % u64::from(frames);
     match room {
-        Room::Small(class) => page as usize * slots_of(class) + (start % PAGE / size_of(class)) as usize,
+        Room::Small(class) => page as usize * slots_of(class)
+            + (start % PAGE / size_of(class)) as usize,
         Room::Pages(pages) => (page / pages) as usize,
     }
 }

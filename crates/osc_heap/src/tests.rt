@@ -1,14 +1,14 @@
 //! Worked rows, and long alternations compared with sets of held slots.
 
+ghost use Rattle.std.specs.Prelude.{◌≡◌, ◌≤◌, IfOk};
+ghost use Rattle.osc_class.specs.Rooms.{IsRoom};
+ghost use Rattle.osc_slot.specs.Heap.{IsHeap, FramesAgree, empty_heap};
+
 use super::*;
 use osc_class::room_of;
 use std::collections::BTreeSet;
 use std::process::Abort;
 use std::test::Fail;
-
-ghost use Rattle.std.specs.Prelude.{◌≡◌, ◌≤◌, IfOk};
-ghost use Rattle.osc_class.specs.Rooms.{IsRoom};
-ghost use Rattle.osc_slot.specs.Heap.{IsHeap, FramesAgree, empty_heap};
 
 /// An empty heap and the frames of its machine.
 fn machine(alloc: Global, count: u32) -> Result<(CanonHeap, Frames), AllocError>
@@ -73,8 +73,14 @@ fn places_and_releases(rt: HostRuntime) -> Result<(), Fail> {
     assert_eq!(rt; heap.block_at(0x20_0004_0010), None);
     assert_eq!(rt; placed(&mut heap, &mut frames, room_of(24)), 0x20_0004_0000);
     // whole pages
-    assert_eq!(rt; placed(&mut heap, &mut frames, Room::Pages(2)), 0x20_0038_0000);
-    assert_eq!(rt; placed(&mut heap, &mut frames, Room::Pages(2)), 0x20_0038_2000);
+    assert_eq!(rt;
+        placed(&mut heap, &mut frames, Room::Pages(2)),
+        0x20_0038_0000
+    );
+    assert_eq!(rt;
+        placed(&mut heap, &mut frames, Room::Pages(2)),
+        0x20_0038_2000
+    );
     assert_eq!(rt; frames.free_count(), 59);
     assert_eq!(rt; heap.frame_at(0x200_0040), Some(0));
     assert_eq!(rt; heap.frame_at(0x200_0382), Some(3));
@@ -93,7 +99,10 @@ fn places_and_releases(rt: HostRuntime) -> Result<(), Fail> {
     heap.clear(&mut frames);
     assert_eq!(rt; frames.free_count(), 64);
     assert_eq!(rt; heap.block_at(0x20_0038_2010), None);
-    assert_eq!(rt; placed(&mut heap, &mut frames, Room::Pages(64)), 0x20_0130_0000);
+    assert_eq!(rt;
+        placed(&mut heap, &mut frames, Room::Pages(64)),
+        0x20_0130_0000
+    );
     assert_eq!(rt; frames.free_count(), 0);
     Ok(())
 }
@@ -110,14 +119,23 @@ fn copy_turned(heap: &CanonHeap, child: &mut CanonHeap)
 fn copies_over_other_frames(rt: HostRuntime) -> Result<(), Fail> {
     let (mut heap, mut frames) = machine(rt.alloc(), 2)?;
     let mut child = CanonHeap::new(rt.alloc(), 2)?;
-    assert_eq!(rt; placed(&mut heap, &mut frames, Room::Small(0)), 0x20_0000_0000);
-    assert_eq!(rt; placed(&mut heap, &mut frames, Room::Pages(1)), 0x20_0001_A000);
+    assert_eq!(rt;
+        placed(&mut heap, &mut frames, Room::Small(0)),
+        0x20_0000_0000
+    );
+    assert_eq!(rt;
+        placed(&mut heap, &mut frames, Room::Pages(1)),
+        0x20_0001_A000
+    );
     copy_turned(&heap, &mut child);
     assert_eq!(rt; child.frame_at(0x200_0000), Some(1));
     assert_eq!(rt; child.frame_at(0x200_001A), Some(0));
     assert_eq!(rt; child.frame_at(0x200_001B), None);
     assert!(rt; child.block_at(0x20_0001_A010).is_some());
-    assert_eq!(rt; child.block_at(0x20_0001_A010), heap.block_at(0x20_0001_A010));
+    assert_eq!(rt;
+        child.block_at(0x20_0001_A010),
+        heap.block_at(0x20_0001_A010)
+    );
     Ok(())
 }
 
@@ -174,7 +192,9 @@ impl Plain {
             return Ok((self.least(0, slots), pages));
         }
         let counts = self.counts(alloc, frames)?;
-        let beside = counts.iter().position(|count| *count > 0 && *count < self.slots);
+        let beside = counts
+            .iter()
+            .position(|count| *count > 0 && *count < self.slots);
         if let Some(page) = beside {
             let first = (page as u64).wrapping_mul(self.slots);
             return Ok((self.least(first, self.slots), 0));
@@ -191,7 +211,8 @@ impl Plain {
         } else {
             let page = slot.checked_div(self.slots).unwrap_or(0);
             let offset = slot.checked_rem(self.slots).unwrap_or(0);
-            page.wrapping_mul(4096).wrapping_add(offset.wrapping_mul(self.size))
+            page.wrapping_mul(4096)
+                .wrapping_add(offset.wrapping_mul(self.size))
         };
         0x20_0000_0000u64.wrapping_add(area).wrapping_add(within)
     }
@@ -208,9 +229,17 @@ fn plain_rooms(alloc: Global) -> Result<Vec<Plain>, AllocError> {
         let small = *size <= 2048;
         rooms.push(Plain {
             request: size.wrapping_sub(16),
-            area: if small { area as u64 } else { (size / 4096).wrapping_add(12) },
+            area: if small {
+                area as u64
+            } else {
+                (size / 4096).wrapping_add(12)
+            },
             size: *size,
-            slots: if small { 4096u64.checked_div(*size).unwrap_or(0) } else { 0 },
+            slots: if small {
+                4096u64.checked_div(*size).unwrap_or(0)
+            } else {
+                0
+            },
             held: BTreeSet::new(alloc),
         })?;
     }
@@ -228,7 +257,13 @@ fn used_frames(alloc: Global, rooms: &[Plain], frames: u64) -> Result<u64, Alloc
 
 /// Places the next block of a room, and compares it with the set. Where a block was placed, it answers
 /// its slot.
-fn place_alike(rt: &(impl Abort + AllocGlobal), heap: &mut CanonHeap, frames: &mut Frames, plain: &Plain, count: u64) -> Result<Option<u64>, AllocError>
+fn place_alike(
+    rt: &(impl Abort + AllocGlobal),
+    heap: &mut CanonHeap,
+    frames: &mut Frames,
+    plain: &Plain,
+    count: u64,
+) -> Result<Option<u64>, AllocError>
     requires { FramesAgree heap.old frames.old }
     ensures { FramesAgree heap.new frames.new }
 {
@@ -239,12 +274,23 @@ fn place_alike(rt: &(impl Abort + AllocGlobal), heap: &mut CanonHeap, frames: &m
         return Ok(None);
     }
     let block = try_place(heap, frames, room);
-    assert_eq!(rt; block.map(|block| block.start), slot.map(|slot| plain.start(count, slot)));
+    assert_eq!(rt;
+        block.map(|block| block.start),
+        slot.map(|slot| plain.start(count, slot))
+    );
     Ok(slot)
 }
 
 /// Places a block of one of the rooms.
-fn place_step(rt: &(impl Abort + AllocGlobal), heap: &mut CanonHeap, frames: &mut Frames, rooms: &mut [Plain], live: &mut Vec<(usize, u64)>, pick: usize, count: u64) -> Result<(), AllocError>
+fn place_step(
+    rt: &(impl Abort + AllocGlobal),
+    heap: &mut CanonHeap,
+    frames: &mut Frames,
+    rooms: &mut [Plain],
+    live: &mut Vec<(usize, u64)>,
+    pick: usize,
+    count: u64,
+) -> Result<(), AllocError>
     requires { FramesAgree heap.old frames.old }
     ensures { FramesAgree heap.new frames.new }
 {
@@ -261,7 +307,15 @@ fn place_step(rt: &(impl Abort + AllocGlobal), heap: &mut CanonHeap, frames: &mu
 }
 
 /// Releases one of the live blocks.
-fn release_step(rt: &(impl Abort + AllocGlobal), heap: &mut CanonHeap, frames: &mut Frames, rooms: &mut [Plain], live: &mut Vec<(usize, u64)>, pick: usize, count: u64)
+fn release_step(
+    rt: &(impl Abort + AllocGlobal),
+    heap: &mut CanonHeap,
+    frames: &mut Frames,
+    rooms: &mut [Plain],
+    live: &mut Vec<(usize, u64)>,
+    pick: usize,
+    count: u64,
+)
     requires { FramesAgree heap.old frames.old }
     ensures { FramesAgree heap.new frames.new }
 {
@@ -279,7 +333,16 @@ fn release_step(rt: &(impl Abort + AllocGlobal), heap: &mut CanonHeap, frames: &
 }
 
 /// One step of an alternation: for 200 steps more is placed than released, and then the other way round.
-fn step(rt: &(impl Abort + AllocGlobal), heap: &mut CanonHeap, frames: &mut Frames, rooms: &mut [Plain], live: &mut Vec<(usize, u64)>, state: u64, number: u32, count: u64) -> Result<(), AllocError>
+fn step(
+    rt: &(impl Abort + AllocGlobal),
+    heap: &mut CanonHeap,
+    frames: &mut Frames,
+    rooms: &mut [Plain],
+    live: &mut Vec<(usize, u64)>,
+    state: u64,
+    number: u32,
+    count: u64,
+) -> Result<(), AllocError>
     requires { FramesAgree heap.old frames.old }
     ensures { FramesAgree heap.new frames.new }
 {
@@ -302,8 +365,19 @@ fn alternate(rt: &(impl Abort + AllocGlobal), count: u32, steps: u32) -> Result<
     let all = u64::from(count);
     let mut state: u64 = all;
     for number in 0..steps {
-        state = state.wrapping_mul(6364136223846793005).wrapping_add(1442695040888963407);
-        step(rt, &mut heap, &mut frames, &mut rooms, &mut live, state, number, all)?;
+        state = state
+            .wrapping_mul(6364136223846793005)
+            .wrapping_add(1442695040888963407);
+        step(
+            rt,
+            &mut heap,
+            &mut frames,
+            &mut rooms,
+            &mut live,
+            state,
+            number,
+            all,
+        )?;
         let used = used_frames(rt.alloc(), &rooms, all)?;
         assert_eq!(rt; u64::from(frames.free_count()), all.saturating_sub(used));
     }

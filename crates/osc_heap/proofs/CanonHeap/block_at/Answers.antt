@@ -16,13 +16,13 @@ pub returns-then-is_held-clause-block : goal.returns-then-is_held-clause-block
 returns-then-is_held-clause-block c =
     let held : bits c.self.inside.areas.items c.in_ok-room.room c.in_ok-room.slot ≡ true = rw c.deref.ensures.value at (sym c.is_held.ensures ∙ c.if-is_held.true) in
     sym (user_here c.self.inside.frames c.self.inside.areas.items c.self.inside.pages.items (vec_capacity c.self.inside.pages) c.args.user (c.args.user - 16) c.in_ok-room.room c.in_ok-room.slot c.args.self.now c.self.view_is c.self.invariant c.if-user-lt-HEADER.false refl
-      c.in_ok-room.ensures.some.0 c.in_ok-room.ensures.some.2 held)
+    c.in_ok-room.ensures.some.0 c.in_ok-room.ensures.some.2 held)
 
 pub returns-else-is_held-clause-block : goal.returns-else-is_held-clause-block
 returns-else-is_held-clause-block c =
     let free : bits c.self.inside.areas.items c.in_ok-room.room c.in_ok-room.slot ≡ false = rw c.deref.ensures.value at (sym c.is_held.ensures ∙ c.if-is_held.false) in
     sym (no_user_here c.self.inside.frames c.self.inside.areas.items c.self.inside.pages.items (vec_capacity c.self.inside.pages) c.args.user (c.args.user - 16) c.in_ok-room.room c.in_ok-room.slot c.args.self.now c.self.view_is c.self.invariant c.if-user-lt-HEADER.false refl
-      c.in_ok-room.ensures.some.0 c.in_ok-room.ensures.some.1 c.in_ok-room.ensures.some.2 free)
+    c.in_ok-room.ensures.some.0 c.in_ok-room.ensures.some.1 c.in_ok-room.ensures.some.2 free)
 
 pub returns-then-is_held-clause-held : goal.returns-then-is_held-clause-held
 returns-then-is_held-clause-held c =

@@ -18,7 +18,7 @@ invariant_of-child c =
     let before = c.child.invariant.room_for_all in
     let room = c.copy_all-2.ensures.room in
     (copied c.self.inside.frames c.self.inside.areas.items c.self.inside.pages.items (vec_capacity c.self.inside.pages) c.args.self.now c.args.names.now c.self.view_is c.self.invariant c.requires.names
-      c.child.inside.frames c.copy_all.new.into.items c.copy_all-2.new.into.items (vec_capacity c.copy_all-2.new.into) same (rw c.deref.ensures.value at c.copy_all.ensures) (rw c.deref-2.ensures.value at c.copy_all-2.ensures.pages) (omega arith)).parts
+    c.child.inside.frames c.copy_all.new.into.items c.copy_all-2.new.into.items (vec_capacity c.copy_all-2.new.into) same (rw c.deref.ensures.value at c.copy_all.ensures) (rw c.deref-2.ensures.value at c.copy_all-2.ensures.pages) (omega arith)).parts
 
 pub returns : goal.returns
 returns c =
@@ -26,5 +26,5 @@ returns c =
     let before = c.child.invariant.room_for_all in
     let room = c.copy_all-2.ensures.room in
     let d = copied c.self.inside.frames c.self.inside.areas.items c.self.inside.pages.items (vec_capacity c.self.inside.pages) c.args.self.now c.args.names.now c.self.view_is c.self.invariant c.requires.names
-      c.child.inside.frames c.copy_all.new.into.items c.copy_all-2.new.into.items (vec_capacity c.copy_all-2.new.into) same (rw c.deref.ensures.value at c.copy_all.ensures) (rw c.deref-2.ensures.value at c.copy_all-2.ensures.pages) (omega arith) in
-    record { child = d.heap_is; valid = (d.valid, d.parts.is_heap); }
+    c.child.inside.frames c.copy_all.new.into.items c.copy_all-2.new.into.items (vec_capacity c.copy_all-2.new.into) same (rw c.deref.ensures.value at c.copy_all.ensures) (rw c.deref-2.ensures.value at c.copy_all-2.ensures.pages) (omega arith) in
+    record { child = d.heap_is; valid = (d.valid, d.parts.is_heap) }

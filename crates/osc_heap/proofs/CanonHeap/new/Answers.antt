@@ -13,4 +13,4 @@ pub returns : goal.returns
 returns c =
     let room = c.in_ok-pages.ensures.exact in
     rw c.in_ok-pages.ensures.items
-      (empty_view c.args.frames c.in_ok-areas.areas.items c.in_ok-areas.ensures, (empty_parts c.args.frames c.in_ok-areas.areas.items (vec_capacity c.in_ok-pages.pages) c.requires c.in_ok-areas.ensures (omega arith)).is_heap)
+    (empty_view c.args.frames c.in_ok-areas.areas.items c.in_ok-areas.ensures, (empty_parts c.args.frames c.in_ok-areas.areas.items (vec_capacity c.in_ok-pages.pages) c.requires c.in_ok-areas.ensures (omega arith)).is_heap)

@@ -34,17 +34,17 @@ invariant_of-self c =
     let found : slot c.self.inside.frames (bits c.self.inside.areas.items) c.args.room ≡ Some c.unwrap-slot.result = sym (rw c.deref-2.ensures.value at c.least_slot.ensures) ∙ c.unwrap-slot.ensures in
     let count : c.need_over-count.result ≡ need_over c.self.inside.frames (bits c.self.inside.areas.items) c.args.room = rw c.deref.ensures.value at c.need_over-count.ensures in
     rw c.set_slot.ensures
-      (placed (to_place c.self.inside.frames c.self.inside.areas.items c.self.inside.pages.items (vec_capacity c.self.inside.pages) c.args.self.now c.args.room c.args.frames.now c.self.view_is c.self.invariant c.requires.frames_agree c.requires.is_room c.requires.enough)
-        c.unwrap-slot.result found c.back.new.pages.items c.back.new.frames (vec_capacity c.back.new.pages) c.back.ensures.room
-        (rw (c.start_of-start.ensures.start, count) at c.back.ensures.pages) (rw (c.start_of-start.ensures.start, count) at c.back.ensures.free)).parts
+    (placed (to_place c.self.inside.frames c.self.inside.areas.items c.self.inside.pages.items (vec_capacity c.self.inside.pages) c.args.self.now c.args.room c.args.frames.now c.self.view_is c.self.invariant c.requires.frames_agree c.requires.is_room c.requires.enough)
+    c.unwrap-slot.result found c.back.new.pages.items c.back.new.frames (vec_capacity c.back.new.pages) c.back.ensures.room
+    (rw (c.start_of-start.ensures.start, count) at c.back.ensures.pages) (rw (c.start_of-start.ensures.start, count) at c.back.ensures.free)).parts
 
 pub returns : goal.returns
 returns c =
     let found : slot c.self.inside.frames (bits c.self.inside.areas.items) c.args.room ≡ Some c.unwrap-slot.result = sym (rw c.deref-2.ensures.value at c.least_slot.ensures) ∙ c.unwrap-slot.ensures in
     let count : c.need_over-count.result ≡ need_over c.self.inside.frames (bits c.self.inside.areas.items) c.args.room = rw c.deref.ensures.value at c.need_over-count.ensures in
     let d = placed (to_place c.self.inside.frames c.self.inside.areas.items c.self.inside.pages.items (vec_capacity c.self.inside.pages) c.args.self.now c.args.room c.args.frames.now c.self.view_is c.self.invariant c.requires.frames_agree c.requires.is_room c.requires.enough)
-        c.unwrap-slot.result found c.back.new.pages.items c.back.new.frames (vec_capacity c.back.new.pages) c.back.ensures.room
-        (rw (c.start_of-start.ensures.start, count) at c.back.ensures.pages) (rw (c.start_of-start.ensures.start, count) at c.back.ensures.free) in
+    c.unwrap-slot.result found c.back.new.pages.items c.back.new.frames (vec_capacity c.back.new.pages) c.back.ensures.room
+    (rw (c.start_of-start.ensures.start, count) at c.back.ensures.pages) (rw (c.start_of-start.ensures.start, count) at c.back.ensures.free) in
     record {
       start = rw c.start_of-start.ensures.start d.start;
       block = rw c.start_of-start.ensures.start d.block;

@@ -6,7 +6,7 @@ use Rattle.osc_heap.proofs.areas.copy_all.Goals as goal
 pub copy_from-requires : goal.copy_from-requires
 copy_from-requires c =
     next_size c.args.frames c.args.areas.now c.args.into.now.items c.loop-i.i c.index_mut.result.now c.index-areas-i.result c.requires.from.0 c.requires.from.1 c.requires.to.0 c.requires.to.1 c.loop-i-test.true
-      (c.index_mut.ensures.value ∙ ap (λ ys. get_or ys c.loop-i.i c.index_mut.result.now) c.loop-i.invariant) c.index-areas-i.is
+    (c.index_mut.ensures.value ∙ ap (λ ys. get_or ys c.loop-i.i c.index_mut.result.now) c.loop-i.invariant) c.index-areas-i.is
 
 pub loop-i-preserved : goal.loop-i-preserved
 loop-i-preserved c =

@@ -7,12 +7,12 @@ use Rattle.osc_heap.proofs.Whole.{no_areas, sized_push, free_push, length-free_r
 use Rattle.osc_heap.proofs.areas.free_areas.Goals as goal
 
 pub loop-area-init : goal.loop-area-init
-loop-area-init c = rw c.in_ok-areas.ensures.items (record { count = refl; sized = no_areas c.args.frames; free = refl; })
+loop-area-init c = rw c.in_ok-areas.ensures.items (record { count = refl; sized = no_areas c.args.frames; free = refl })
 
 pub loop-area-preserved : goal.loop-area-preserved
 loop-area-preserved c =
     let items : c.push.new.self.items ≡ c.loop-area.areas.items ++ replicate (slots_in c.args.frames (room_at c.loop-area.area)) false ∷ [] =
-          c.in_ok-push.ensures.items ∙ ap (λ row. c.loop-area.areas.items ++ row ∷ []) (rw (c.slots_in.ensures, c.room_at.ensures.room) at c.in_ok-new.ensures) in
+    c.in_ok-push.ensures.items ∙ ap (λ row. c.loop-area.areas.items ++ row ∷ []) (rw (c.slots_in.ensures, c.room_at.ensures.room) at c.in_ok-new.ensures) in
     let count = c.loop-area.invariant.count in
     rw items (record {
       count = grind (arith, common_steps);

@@ -6,6 +6,6 @@ use Rattle.osc_heap.proofs.pages.give_all.Given as goal
 
 abbrev pub invariant-loop-page : goal.invariant-loop-page
 invariant-loop-page l = record {
-    given : give_back l.pages l.fn.frames ≡ give_back (drop l.page-index l.pages) l.frames;
-    taken : CanGiveBack l.frames (drop l.page-index l.pages);
+  given : give_back l.pages l.fn.frames ≡ give_back (drop l.page-index l.pages) l.frames;
+  taken : CanGiveBack l.frames (drop l.page-index l.pages);
 }
