@@ -1,0 +1,16 @@
+-- The areas that were made are free, and the pages have room for all frames.
+use Rattle.std.proofs.Common.{◌≡◌, ◌≤◌, sym, ap, ◌∙◌, arith}
+use Rattle.std.specs.Vec.{vec_capacity}
+use Rattle.osc_heap.proofs.Whole.{empty_parts, empty_view}
+use Rattle.osc_heap.proofs.CanonHeap.new.Goals as goal
+
+pub invariant_of-result : goal.invariant_of-result
+invariant_of-result c =
+    let room = c.in_ok-pages.ensures.exact in
+    rw c.in_ok-pages.ensures.items (empty_parts c.args.frames c.in_ok-areas.areas.items (vec_capacity c.in_ok-pages.pages) c.requires c.in_ok-areas.ensures (omega arith))
+
+pub returns : goal.returns
+returns c =
+    let room = c.in_ok-pages.ensures.exact in
+    rw c.in_ok-pages.ensures.items
+      (empty_view c.args.frames c.in_ok-areas.areas.items c.in_ok-areas.ensures, (empty_parts c.args.frames c.in_ok-areas.areas.items (vec_capacity c.in_ok-pages.pages) c.requires c.in_ok-areas.ensures (omega arith)).is_heap)

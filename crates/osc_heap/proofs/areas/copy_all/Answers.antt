@@ -1,0 +1,16 @@
+-- The area at the loop's place is the next that is copied.
+use Rattle.std.proofs.Common.{◌≡◌, ◌<◌, length, arith, ap, ◌∙◌, get_or}
+use Rattle.osc_heap.proofs.Whole.{copied_next, next_size}
+use Rattle.osc_heap.proofs.areas.copy_all.Goals as goal
+
+pub copy_from-requires : goal.copy_from-requires
+copy_from-requires c =
+    next_size c.args.frames c.args.areas.now c.args.into.now.items c.loop-i.i c.index_mut.result.now c.index-areas-i.result c.requires.from.0 c.requires.from.1 c.requires.to.0 c.requires.to.1 c.loop-i-test.true
+      (c.index_mut.ensures.value ∙ ap (λ ys. get_or ys c.loop-i.i c.index_mut.result.now) c.loop-i.invariant) c.index-areas-i.is
+
+pub loop-i-preserved : goal.loop-i-preserved
+loop-i-preserved c =
+    let within = c.loop-i-test.true in
+    let from = c.requires.from.0 in
+    let to = c.requires.to.0 in
+    copied_next c.args.areas.now c.args.into.now.items c.loop-i.into.items c.loop-i.i c.index-areas-i.result c.copy_from.new.self c.loop-i.invariant c.loop-i-test.true (omega arith) c.index-areas-i.is c.copy_from.ensures

@@ -1,0 +1,97 @@
+-- How truth values, one for each slot of each area, stand for the held blocks of a heap. This project's own.
+use Rattle.std.specs.Prelude.{ℕ, ◌+◌, ◌-◌, ◌*◌, ◌/◌, ◌≡◌, ◌≤◌, nat_le, nat_lt, Bool, true, false, not, ◌&&◌, if◌then◌else◌, Option, Some, None, List, [], ◌∷◌, length, replicate, slice_get, slice_set, slice_index_or}
+use Rattle.std.specs.List.{list_any, list_all}
+use Rattle.osc_class.specs.declared.Room.{Room}
+use Rattle.osc_class.specs.declared.Room.TheVariants.{Small, Pages}
+use Rattle.osc_slot.specs.declared.Block.{Block}
+use Rattle.osc_slot.specs.declared.HeapPage.{HeapPage}
+use Rattle.osc_slot.specs.Least.{least, any}
+use Rattle.osc_slot.specs.Areas.{area_of, slots_in, block_at_slot}
+use Rattle.osc_slot.specs.Slots.{Holds}
+use Rattle.osc_slot.specs.Heap.{Heap, IsHeap}
+
+-- the room of an area
+abbrev pub room_at : ℕ → Room
+room_at area = if nat_lt area 13 then Small area else Pages (area - 12)
+
+abbrev pub bit_at : List Bool → ℕ → Bool
+bit_at row slot = slice_index_or row slot false
+
+-- the truth values of a room's area
+abbrev pub row_of : List (List Bool) → Room → List Bool
+row_of rows room = slice_index_or rows (area_of room) []
+
+abbrev pub bits : List (List Bool) → Holds
+bits rows room slot = bit_at (row_of rows room) slot
+
+-- the rows with another truth value at a slot
+abbrev pub with_bit : List (List Bool) → Room → ℕ → Bool → List (List Bool)
+with_bit rows room slot held = slice_set rows (area_of room) (slice_set (row_of rows room) slot held)
+
+-- whether a page of a class's area holds a block, where a page has so many slots
+abbrev pub page_held : ℕ → List Bool → ℕ → Bool
+page_held slots row page = any (λ slot. bit_at row slot) (page * slots) slots
+
+-- the least free slot of a page, where the page holds a block
+abbrev pub page_beside : ℕ → List Bool → ℕ → Option ℕ
+page_beside slots row page = if page_held slots row page then least (λ slot. not (bit_at row slot)) (page * slots) slots else None
+
+-- the least free slot on one of so many pages that holds a block
+unfoldable pub row_beside : ℕ → ℕ → List Bool → Option ℕ
+row_beside pages slots row = least (λ slot. page_held slots row (slot / slots) && not (bit_at row slot)) 0 (pages * slots)
+
+-- the least of so many pages that holds no block
+unfoldable pub row_empty_page : ℕ → ℕ → List Bool → Option ℕ
+row_empty_page pages slots row = least (λ page. not (page_held slots row page)) 0 pages
+
+-- the held blocks of an area from this slot on, and those after it
+unfoldable pub blocks_of_row : ℕ → Room → ℕ → List Bool → List Block → List Block
+blocks_of_row frames room slot [] rest = rest
+blocks_of_row frames room slot (true ∷ row) rest = block_at_slot frames room slot ∷ blocks_of_row frames room (slot + 1) row rest
+blocks_of_row frames room slot (false ∷ row) rest = blocks_of_row frames room (slot + 1) row rest
+
+-- the held blocks of the areas from this one on
+unfoldable pub blocks_from : ℕ → ℕ → List (List Bool) → List Block
+blocks_from frames area [] = []
+blocks_from frames area (row ∷ rows) = blocks_of_row frames (room_at area) 0 row (blocks_from frames (area + 1) rows)
+
+-- each area from this one on has a truth value for each slot
+unfoldable pub AreSized : ℕ → ℕ → List (List Bool) → Type 0
+AreSized frames area [] = Unit {0}
+AreSized frames area (row ∷ rows) = (length row ≡ slots_in frames (room_at area)) × AreSized frames (area + 1) rows
+
+-- no slot of these areas is held
+abbrev pub all_free : List (List Bool) → Bool
+all_free rows = list_all (λ row. not (list_any (λ held. held) row)) rows
+
+abbrev pub free_row : List Bool → List Bool
+free_row row = replicate (length row) false
+
+-- the areas of a heap that holds no block
+pub record AreFree (frames : ℕ) (rows : List (List Bool)) : Type 0 where
+  pub areas : length rows ≡ 13 + frames
+  pub sized : AreSized frames 0 rows
+  pub free : all_free rows ≡ true
+
+abbrev pub heap_of : ℕ → List (List Bool) → List HeapPage → Heap
+heap_of frames rows pages = record { frames = frames; held = blocks_from frames 0 rows; pages = pages }
+
+-- one of so many pages from one on
+abbrev pub in_range : ℕ → ℕ → HeapPage → Bool
+in_range first count p = nat_le first p.page && nat_lt p.page (first + count)
+
+abbrev pub out_of_range : ℕ → ℕ → HeapPage → Bool
+out_of_range first count p = not (in_range first count p)
+
+-- each page's frame is taken when those of the pages before it are free
+unfoldable pub CanGiveBack : List Bool → List HeapPage → Type 0
+CanGiveBack free [] = Unit {0}
+CanGiveBack free (p ∷ pages) = (slice_get free p.frame ≡ Some false) × CanGiveBack (slice_set free p.frame true) pages
+
+-- what is true of the parts of a heap
+pub record AreParts (frames : ℕ) (rows : List (List Bool)) (pages : List HeapPage) (room : ℕ) : Type 0 where
+  pub most : frames ≤ 4096
+  pub areas : length rows ≡ 13 + frames
+  pub sized : AreSized frames 0 rows
+  pub is_heap : IsHeap (heap_of frames rows pages)
+  pub room_for_all : frames ≤ room

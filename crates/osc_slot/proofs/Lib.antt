@@ -1,0 +1,10 @@
+pub mod Counting
+pub mod InOrder
+pub mod Bounds
+pub mod HeldBlocks
+pub mod Exists
+pub mod Backing
+pub mod Fresh
+pub mod Placing
+pub mod Releasing
+pub mod Copying
