@@ -8,9 +8,6 @@ program=crates/oscar/out/oscar
 work=$(mktemp -d)
 trap 'rm -rf "$work"' EXIT
 head -c 16777216 /dev/zero > "$work/long"
-# the image of examples/status with its first instruction replaced by a jump to itself
-cp examples/status.elf "$work/loop"
-printf '\x6f\x00\x00\x00' | dd of="$work/loop" bs=1 seek=4096 conv=notrunc status=none
 timed() {
     local start end
     start=$(date +%s%N)
@@ -19,4 +16,4 @@ timed() {
     echo "$1: $(((end - start) / 1000000)) ms ($(cat "$work/err"))"
 }
 timed "16 MiB read" "$work/long"
-timed "1000000 instructions" "$work/loop"
+timed "1000000 instructions" bench/endless.elf

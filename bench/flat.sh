@@ -9,11 +9,8 @@ program=crates/oscar/out/oscar
 work=$(mktemp -d)
 trap 'rm -rf "$work"' EXIT
 repeat=50
-# a loop that runs to the end of its 1000000 instructions
-cp examples/status.elf "$work/loop"
-printf '\x6f\x00\x00\x00' | dd of="$work/loop" bs=1 seek=4096 conv=notrunc status=none
 start=$(date +%s%N)
-for _ in $(seq 10); do "$program" < "$work/loop" > /dev/null 2>&1 || true; done
+for _ in $(seq 10); do "$program" < bench/endless.elf > /dev/null 2>&1 || true; done
 end=$(date +%s%N)
 echo "oscar, a jump: $((10 * 1000000 * 1000000000 / (end - start))) instructions per second"
 run_for() {

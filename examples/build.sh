@@ -15,8 +15,8 @@ assemble() {
 image() {
     local name=$1
     shift
-    riscv64-unknown-elf-gcc "${target[@]}" -static -nostdlib -T link.ld \
-        -Wl,--entry=_start -Wl,--build-id=none -Wl,-z,max-page-size=4096 -o "$name.elf" "$@" -lgcc
+    riscv64-unknown-elf-gcc "${target[@]}" -static -nostdlib \
+        -Wl,--no-relax -Wl,--build-id=none -o "$name.elf" "$@" -lgcc
     riscv64-unknown-elf-strip "$name.elf"
 }
 
