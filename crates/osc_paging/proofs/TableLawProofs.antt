@@ -112,7 +112,7 @@ giving_keeps entries top words c g = give-agrees entries top c words g
 pub mapping_takes_need : MappingTakesNeed
 mapping_takes_need top number root m c e s n = maps top number root m c (rw (piece-top (suc top) number s) e) n
 
-none_needed : (ts : List TableFrame) (l number : ℕ) → need ts l number 0 ≡ 0
+pub none_needed : (ts : List TableFrame) (l number : ℕ) → need ts l number 0 ≡ 0
 unfolding need missing
 none_needed ts zero number = refl
 none_needed ts (suc l) number = let h = none_needed ts l number in omega arith

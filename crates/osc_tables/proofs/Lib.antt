@@ -1,0 +1,5 @@
+pub mod PagePlaces
+pub mod TableScans
+pub mod KeptFacts
+pub mod Pieces
+pub mod Canonical

@@ -1,0 +1,200 @@
+//! The tables of one process, and each change of them.
+#![tactic(auto, using(crate::proofs::KeptFacts::kept_facts))]
+
+ghost use Rattle.std.specs.Prelude.{
+  ◌≡◌,
+  ◌+◌,
+  ◌<◌,
+  ◌≤◌,
+  ℕ,
+  Bool,
+  List,
+  [],
+  IfOk,
+  IsSome,
+  IsTrue,
+  MatchOption,
+  Some,
+  None,
+  length,
+};
+ghost use Rattle.std.specs.Prelude.{option_map, suc, ◌*◌, ◌^◌};
+ghost use Rattle.osc_sv39.specs.Entries.{word_of};
+ghost use Rattle.osc_sv39.specs.Walk.{is_canonical, number_of};
+ghost use Rattle.osc_paging.specs.Agree.{ReadsAsLeaf};
+ghost use Rattle.osc_paging.specs.KeptTables.{closed, kept_word, link_entry, mapping_of, page_entry, piece_of, place_of, need, root_of, table_at};
+ghost use Rattle.osc_tables.specs.Inside.{LieWithin};
+ghost use Rattle.osc_tables.specs.Calls.{
+  AllCanonical,
+  IsNextPage,
+  IsOpen,
+  NoneFrom,
+  left,
+};
+
+use crate::needs::need_below;
+use crate::numbers::{least_from, number_in_range, page_of, piece_over};
+use crate::page_list::{mapping_at, place_for};
+use crate::table_list::{frame_of, piece_of};
+use osc_paging::{Mapped, Piece, TableFrame, TablePlace};
+use osc_sv39::{Mapping, leaf, table};
+use std::alloc::{AllocError, Global};
+use std::marker::Model;
+
+/// The page tables of one process. They are closed, or open with a topmost table. A leaf table that
+/// was given up stands aside until its frame is given back.
+#[derive(Drop)]
+pub struct Tables {
+    pages: Vec<Mapped>,
+    tables: Vec<TableFrame>,
+    aside: Vec<TableFrame>,
+    room: u32,
+    count: u32,
+}
+
+impl Model for Tables {
+    ghost use Rattle.std.specs.Prelude.{◌≤◌};
+    ghost use Rattle.std.specs.Vec.{vec_capacity};
+    ghost use Rattle.osc_paging.specs.KeptTables.{KeptTables};
+    ghost use Rattle.osc_tables.specs.Inside.{IsKept, kept};
+
+    ghost Value = { KeptTables };
+
+    ghost view = { λ t. kept t.pages.items t.tables.items t.aside.items t.room t.count };
+
+    ghost invariant = { λ t. IsKept 3 t.pages.items t.tables.items t.aside.items t.room t.count
+        × (t.room ≤ vec_capacity t.pages) × (t.count ≤ vec_capacity t.tables) × (t.count ≤ vec_capacity t.aside) };
+}
+
+/// The word of what may be mapped.
+fn page_word(mapping: Option<Mapping>) -> u64
+    ensures { result ≡ word_of (page_entry mapping) }
+{
+    mapping.map_or(0, |m| leaf(m.frame, m.bits))
+}
+
+/// The word of what may be linked.
+fn link_word(frame: Option<u32>) -> u64
+    ensures { result ≡ word_of (link_entry frame) }
+{
+    frame.map_or(0, |f| table(f))
+}
+
+/// The place of a table.
+fn place_of(piece: Piece) -> TablePlace
+    requires level { piece.level < 3 }
+    requires range { piece.number * 512 ^ suc piece.level < 512 ^ 3 }
+    ensures { result ≡ place_of 2 piece }
+{
+    let first = match piece.level {
+        0 => piece.number * 512,
+        1 => piece.number * (512 * 512),
+        _ => piece.number * (512 * 512 * 512),
+    };
+    TablePlace {
+        level: piece.level,
+        first: page_of(first),
+    }
+}
+
+/// The place of the table in a frame.
+fn place_in(tables: &[TableFrame], frame: u32) -> Option<TablePlace>
+    requires { LieWithin 3 tables.now }
+    ensures { result ≡ option_map (place_of 2) (piece_of tables.now frame) }
+{
+    let piece = piece_of(tables, frame)?;
+    Some(place_of(piece))
+}
+
+impl Tables {
+    /// Closed tables of a machine with so many frames, with room for so many mapped pages.
+    pub fn new(alloc: Global, frames: u32, pages: u32) -> Result<Tables, AllocError>
+        ensures { IfOk result (λ t. t ≡ closed frames pages) }
+    {
+        Ok(Tables {
+            pages: Vec::with_capacity(alloc, pages as usize)?,
+            tables: Vec::with_capacity(alloc, frames as usize)?,
+            aside: Vec::with_capacity(alloc, frames as usize)?,
+            room: pages,
+            count: frames,
+        })
+    }
+
+    /// The frame of the topmost table.
+    pub fn root(&self) -> u32
+        requires { IsOpen 2 self.now }
+        ensures { root_of 2 self.now ≡ Some result }
+    {
+        frame_of(&self.tables, 2, 0).unwrap()
+    }
+
+    /// The mapping of a page; None exactly where it is not mapped.
+    pub fn at(&self, page: u64) -> Option<Mapping>
+        ensures { result ≡ mapping_of 3 self.now page }
+    {
+        let number = number_in_range(page)?;
+        mapping_at(&self.pages, number)
+    }
+
+    /// How many more pages may be mapped.
+    pub fn left(&self) -> u32
+        ensures { result ≡ left self.now }
+    {
+        self.room - self.pages.len() as u32
+    }
+
+    /// The place of the table in a frame; None exactly where the frame is no table of this
+    /// process. A leaf aside is one.
+    pub fn table_at(&self, frame: u32) -> Option<TablePlace>
+        ensures { result ≡ table_at 2 self.now frame }
+    {
+        match place_in(&self.tables, frame) {
+            Some(place) => Some(place),
+            None => place_in(&self.aside, frame),
+        }
+    }
+
+    /// The word that the kept tables have in a table. A leaf aside has only words 0.
+    pub fn entry(&self, frame: u32, index: u16) -> u64
+        requires table { IsSome (table_at 2 self.now frame) }
+        requires index { index < 512 }
+        ensures { result ≡ kept_word self.now frame index }
+    {
+        match piece_of(&self.tables, frame) {
+            None => 0,
+            Some(piece) => {
+                let number = piece.number * 512 + u64::from(index);
+                if piece.level == 0 {
+                    page_word(mapping_at(&self.pages, number))
+                } else {
+                    link_word(frame_of(&self.tables, piece.level - 1, number))
+                }
+            }
+        }
+    }
+
+    /// The least mapped page at or above another; None exactly where there is none.
+    pub fn next_page(&self, from: u64) -> Option<u64>
+        ensures { MatchOption result (NoneFrom 3 self.now from) (IsNextPage 3 self.now from) }
+    {
+        let number = least_from(from)?;
+        let at = place_for(&self.pages, number);
+        if at < self.pages.len() {
+            let found = self.pages[at].number;
+            Some(page_of(found))
+        } else {
+            None
+        }
+    }
+
+    /// The table frames that mapping so many pages newly takes.
+    pub fn need(&self, first: u64, count: u64) -> u64
+        requires { AllCanonical 3 first count }
+        ensures { result ≡ need self.now.tables 2 (number_of 3 first) count }
+    {
+        if count == 0 {
+            return 0;
+        }
+        need_below(&self.tables, 2, first & 0x7ff_ffff, count)
+    }
+}
