@@ -39,21 +39,23 @@ one_half first count s all = ⊎_elim low high (halves first (rw here at (all 0 
   where
     here : first + 0 ≡ first
     here = omega arith
+
     low : first < 67108864 → first % 134217728 + count ≤ 134217728
     low l = ⊎_elim
         (λ (fits : first + count ≤ 67108864). omega arith)
         (λ (over : 67108864 < first + count).
-            (let q : first + (67108864 - first) ≡ 67108864 = omega arith in
-             let bad : IsTrue (is_canonical 3 67108864) = rw q at (all (67108864 - first) (omega arith)) in
-             absurd (no_true bad)))
+        (let q : first + (67108864 - first) ≡ 67108864 = omega arith in
+        let bad : IsTrue (is_canonical 3 67108864) = rw q at (all (67108864 - first) (omega arith)) in
+        absurd (no_true bad)))
         (either (first + count) 67108864)
+
     high : (4503599560261632 ≤ first) × (first < 4503599627370496) → first % 134217728 + count ≤ 134217728
     high l = ⊎_elim
         (λ (fits : first + count ≤ 4503599627370496). omega (arith, l.0, l.1))
         (λ (over : 4503599627370496 < first + count).
-            (let q : first + (4503599627370496 - first) ≡ 4503599627370496 = omega (arith, l.1) in
-             let bad : IsTrue (is_canonical 3 4503599627370496) = rw q at (all (4503599627370496 - first) (omega (arith, l.1))) in
-             absurd (no_true bad)))
+        (let q : first + (4503599627370496 - first) ≡ 4503599627370496 = omega (arith, l.1) in
+        let bad : IsTrue (is_canonical 3 4503599627370496) = rw q at (all (4503599627370496 - first) (omega (arith, l.1))) in
+        absurd (no_true bad)))
         (either (first + count) 4503599627370496)
 
 -- ---- the least page from another on

@@ -3,3 +3,5 @@ pub mod TableScans
 pub mod KeptFacts
 pub mod Pieces
 pub mod Canonical
+pub mod KeptChanges
+pub mod Linked

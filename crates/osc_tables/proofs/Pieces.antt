@@ -1,6 +1,7 @@
 -- Pieces of numbers, and the need of frames.
-use Rattle.std.proofs.Common.{ℕ, zero, suc, ◌≡◌, ◌<◌, ◌≤◌, ◌+◌, ◌-◌, ◌/◌, List, arith, refl, ap}
+use Rattle.std.proofs.Common.{ℕ, zero, suc, ◌≡◌, ◌<◌, ◌≤◌, ◌+◌, ◌-◌, ◌/◌, ◌*◌, ◌^◌, List, arith, refl, ap}
 use Rattle.std.proofs.lemmas.Bool.Decides.{nat_tests}
+use Rattle.std.proofs.Math.Nat.{pow-succ', mul-le-mul_right}
 use Rattle.osc_sv39.specs.Walk.{piece}
 use Rattle.osc_paging.specs.declared.TableFrame.{TableFrame}
 use Rattle.osc_paging.specs.KeptTables.{pieces_over, missing, need, lack, frame_of}
@@ -38,3 +39,12 @@ need-zero ts first count = refl
 pub ruleset piece_facts = (piece-le, pieces_over-some, piece-last, nat_tests)
 
 pub ruleset need_facts = (missing-step, missing-none, need-step, need-zero, nat_tests)
+
+-- a piece begins at or before each of its pages
+pub piece-start : (l n : ℕ) → piece l n * 512 ^ l ≤ n
+piece-start zero n = omega arith
+piece-start (suc l) n =
+    let h = piece-start l n in
+    let b : piece l n / 512 * 512 ≤ piece l n = omega arith in
+    let m = mul-le-mul_right (512 ^ l) b in
+    rw pow-succ' (omega arith)

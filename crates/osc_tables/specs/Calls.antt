@@ -57,3 +57,9 @@ pub record CanRename (t : KeptTables) (names : List ℕ) : Type 0 where
   pub tables : (frame : ℕ) (p : Piece) → piece_of t.tables frame ≡ Some p → (frame < t.count) × (slice_index names frame < t.count)
   pub pages : (n : ℕ) → (m : Mapped) → m.number ≡ n → mapping_at t.pages n ≡ Some m.mapping → m.mapping.frame < t.count
   pub different : (f g : ℕ) (p q : Piece) → piece_of t.tables f ≡ Some p → piece_of t.tables g ≡ Some q → f ≢ g → slice_index names f ≢ slice_index names g
+
+-- a frame that no table has yet, and there may be one more
+pub record IsFresh (t : KeptTables) (frame : ℕ) : Type 0 where
+  pub no_table : piece_of t.tables frame ≡ None
+  pub not_aside : piece_of t.aside frame ≡ None
+  pub fits : length t.tables + length t.aside < t.count

@@ -1,43 +1,27 @@
 //! The tables of one process, and each change of them.
 #![tactic(auto, using(crate::proofs::KeptFacts::kept_facts))]
 
-ghost use Rattle.std.specs.Prelude.{
-  ◌≡◌,
-  ◌+◌,
-  ◌<◌,
-  ◌≤◌,
-  ℕ,
-  Bool,
-  List,
-  [],
-  IfOk,
-  IsSome,
-  IsTrue,
-  MatchOption,
-  Some,
-  None,
-  length,
-};
-ghost use Rattle.std.specs.Prelude.{option_map, suc, ◌*◌, ◌^◌};
+ghost use Rattle.std.specs.Prelude.{◌≡◌, ◌≢◌, ◌+◌, ◌*◌, ◌%◌, ◌/◌, ◌^◌, ◌<◌, ◌≤◌, ◌++◌, ◌∷◌, [], ℕ, suc, List, Bool, length, if◌then◌else◌};
+ghost use Rattle.std.specs.Prelude.{IfOk, IsSome, IsTrue, MatchOption, Some, None, option_map};
+ghost use Rattle.osc_word.specs.JobList.{spare};
+ghost use Rattle.osc_frames.specs.Free.{free_count};
 ghost use Rattle.osc_sv39.specs.Entries.{word_of};
 ghost use Rattle.osc_sv39.specs.Walk.{is_canonical, number_of};
 ghost use Rattle.osc_paging.specs.Agree.{ReadsAsLeaf};
-ghost use Rattle.osc_paging.specs.KeptTables.{closed, kept_word, link_entry, mapping_of, page_entry, piece_of, place_of, need, root_of, table_at};
+ghost use Rattle.osc_paging.specs.KeptTables.{closed, kept_word, link_entry, mapping_of, need, page_entry};
+ghost use Rattle.osc_paging.specs.KeptTables.{piece_of, place_of, root_of, table_at};
+ghost use Rattle.osc_paging.specs.TableChanges.{link, link_all, map_page, put_job, with_table, zero_job};
+ghost use Rattle.osc_tables.specs.Calls.{AllCanonical, HasTaken, IsFresh, IsNextPage, IsOpen, NoneFrom, changed, left};
 ghost use Rattle.osc_tables.specs.Inside.{LieWithin};
-ghost use Rattle.osc_tables.specs.Calls.{
-  AllCanonical,
-  IsNextPage,
-  IsOpen,
-  NoneFrom,
-  left,
-};
 
 use crate::needs::need_below;
 use crate::numbers::{least_from, number_in_range, page_of, piece_over};
-use crate::page_list::{mapping_at, place_for};
-use crate::table_list::{frame_of, piece_of};
+use crate::page_list::{mapping_at, place_for, put_page};
+use crate::table_list::{frame_of, piece_of, put_table};
+use osc_frames::Frames;
 use osc_paging::{Mapped, Piece, TableFrame, TablePlace};
-use osc_sv39::{Mapping, leaf, table};
+use osc_sv39::{Mapping, PteEntry, leaf, table};
+use osc_word::{Job, Jobs, WordAt};
 use std::alloc::{AllocError, Global};
 use std::marker::Model;
 
@@ -78,6 +62,20 @@ fn link_word(frame: Option<u32>) -> u64
     ensures { result ≡ word_of (link_entry frame) }
 {
     frame.map_or(0, |f| table(f))
+}
+
+/// The job that puts a word at the place of a number in a table.
+fn put_word(table: u32, number: u64, value: u64) -> Job
+    ensures { result ≡ put_job table (number % 512) value }
+{
+    let index = (number % 512) as u16;
+    Job::PutWord {
+        at: WordAt {
+            frame: table,
+            index,
+        },
+        value,
+    }
 }
 
 /// The place of a table.
@@ -196,5 +194,92 @@ impl Tables {
             return 0;
         }
         need_below(&self.tables, 2, first & 0x7ff_ffff, count)
+    }
+
+    /// Puts a table over a piece, and links it in its parent.
+    fn add_table(&mut self, new: TableFrame, parent: u32, jobs: &mut Jobs)
+        requires level { new.piece.level < 3 }
+        requires range { new.piece.number * 512 ^ suc new.piece.level < 512 ^ 3 }
+        requires fresh { IsFresh self.old new.frame }
+        requires spare { 2 ≤ spare jobs.old }
+        ensures tables { self.new ≡ record self.old { tables = with_table new self.old.tables } }
+        ensures pushed { jobs.new.pushed ≡ jobs.old.pushed
+            ++ zero_job new.frame ∷ put_job parent (new.piece.number % 512) (word_of (PteEntry.Table new.frame)) ∷ [] }
+        ensures room { jobs.new.room ≡ jobs.old.room }
+    {
+        put_table(&mut self.tables, new);
+        jobs.push(Job::ZeroWords {
+            at: WordAt {
+                frame: new.frame,
+                index: 0,
+            },
+            count: 512,
+        });
+        jobs.push(put_word(parent, new.piece.number, table(new.frame)));
+    }
+
+    /// Links the table of this level over a piece, where it is missing: in the least free frame.
+    fn link(&mut self, level: u8, number: u64, frames: &mut Frames, jobs: &mut Jobs)
+        requires level { level < 2 }
+        requires range { number * 512 ^ suc level < 512 ^ 3 }
+        requires taken { HasTaken self.old frames.old }
+        requires spare { 2 ≤ spare jobs.old }
+        ensures next { changed self.new frames.new jobs.new.pushed ≡ link level number (changed self.old frames.old jobs.old.pushed) }
+        ensures taken { HasTaken self.new frames.new }
+        ensures room { jobs.new.room ≡ jobs.old.room }
+        ensures few { spare jobs.old ≤ spare jobs.new + 2 }
+        ensures rest { self.new ≡ record self.old { tables = self.new.tables } }
+    {
+        if frame_of(&self.tables, level, number).is_some() {
+            return;
+        }
+        if let Some(parent) = frame_of(&self.tables, level + 1, number / 512) {
+            if let Some(frame) = frames.take() {
+                let piece = Piece { level, number };
+                self.add_table(TableFrame { piece, frame }, parent, jobs);
+            }
+        }
+    }
+
+    /// Links all tables over a page that are missing, from the top.
+    fn link_down(&mut self, number: u64, frames: &mut Frames, jobs: &mut Jobs)
+        requires range { number < 512 ^ 3 }
+        requires taken { HasTaken self.old frames.old }
+        requires spare { 4 ≤ spare jobs.old }
+        ensures next { changed self.new frames.new jobs.new.pushed ≡ link_all 2 number (changed self.old frames.old jobs.old.pushed) }
+        ensures taken { HasTaken self.new frames.new }
+        ensures room { jobs.new.room ≡ jobs.old.room }
+        ensures few { spare jobs.old ≤ spare jobs.new + 4 }
+        ensures rest { self.new ≡ record self.old { tables = self.new.tables } }
+    {
+        let mut level = 2;
+        while level > 0 {
+            let above = piece_over(level, number);
+            level -= 1;
+            self.link(level, above, frames, jobs);
+        }
+    }
+
+    /// Maps a page: the tables over it that are missing are linked, and its leaf is put.
+    pub fn map(&mut self, page: u64, mapping: Mapping, frames: &mut Frames, jobs: &mut Jobs)
+        requires opened { IsOpen 2 self.old }
+        requires canonical { IsTrue (is_canonical 3 page) }
+        requires leaf { ReadsAsLeaf mapping }
+        requires unmapped { mapping_of 3 self.old page ≡ None }
+        requires left { 0 < left self.old }
+        requires taken { HasTaken self.old frames.old }
+        requires need { need self.old.tables 2 (number_of 3 page) 1 ≤ free_count frames.old }
+        requires spare { 5 ≤ spare jobs.old }
+        ensures next { changed self.new frames.new jobs.new.pushed
+            ≡ map_page 2 (number_of 3 page) mapping (changed self.old frames.old jobs.old.pushed) }
+        ensures taken { HasTaken self.new frames.new }
+        ensures room { jobs.new.room ≡ jobs.old.room }
+    {
+        let number = page & 0x7ff_ffff;
+        self.link_down(number, frames, jobs);
+        if let Some(table) = frame_of(&self.tables, 0, number / 512) {
+            put_page(&mut self.pages, number, mapping);
+            jobs.push(put_word(table, number, leaf(mapping.frame, mapping.bits)));
+        }
     }
 }
