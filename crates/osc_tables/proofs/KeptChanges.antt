@@ -1,5 +1,6 @@
 -- Each change keeps what the lists of tables always are.
-use Rattle.std.proofs.Common.{ℕ, zero, suc, ◌≡◌, ◌≢◌, ◌<◌, ◌≤◌, ◌+◌, ◌*◌, ◌^◌, ◌==◌, ◌&&◌, ltb, Bool, true, false, cond, List, [], ◌∷◌, ◌++◌, Option, Some, None, arith, refl, ap, sym, ◌∙◌, subst, length, length-append, set, slice_get, position, count_by}
+use Rattle.std.proofs.Common.{ℕ, zero, suc, ◌≡◌, ◌≢◌, ◌<◌, ◌≤◌, ◌+◌, ◌*◌, ◌^◌, ◌==◌, ltb, Bool, true, false, cond, List, [], ◌∷◌, ◌++◌, Option, Some, None, arith, refl, ap, sym, ◌∙◌, subst, add-one, drop-cons, drop, get_or, length, length-append, set, slice_get, position, count_by}
+use Rattle.std.specs.Prelude.{map, slice_index}
 use Rattle.std.proofs.lemmas.Bool.Decides.{nat_tests}
 use Rattle.std.proofs.lemmas.List.{length-set}
 use Rattle.std.proofs.lemmas.List.Sums.{sum_by-cons, count_by-le-length}
@@ -10,7 +11,7 @@ use Rattle.osc_paging.specs.declared.Piece.{Piece}
 use Rattle.osc_paging.specs.declared.TableFrame.{TableFrame}
 use Rattle.osc_paging.specs.declared.Mapped.{Mapped}
 use Rattle.osc_paging.specs.KeptTables.{KeptTables, mapping_at, mapping_of, frame_of, piece_of, is_piece}
-use Rattle.osc_paging.specs.TableChanges.{with_table, without_table, with_page, without_page, frames_given, is_before}
+use Rattle.osc_paging.specs.TableChanges.{with_table, without_table, with_page, without_page, frames_given, is_before, table_frame, renamed_page, renamed_table}
 use Rattle.osc_paging.proofs.WordLists.{slice_get-set, written}
 use Rattle.osc_paging.proofs.TableLists.{piece_of-with_table, piece_of-without_none, piece_of-push, or_else}
 use Rattle.osc_paging.proofs.Kept.{length-frames_given}
@@ -281,3 +282,168 @@ kept-without_page pages tables aside room count n k = record {
 
 pub same_taken : (t u : KeptTables) (free : List Bool) → HasTaken t free → t.count ≡ u.count → t.tables ≡ u.tables → t.aside ≡ u.aside → HasTaken u free
 same_taken t u free h e f g = record { count = h.count ∙ e; tables = rw f at h.tables; aside = rw g at h.aside }
+
+-- ---- a leaf that is set aside
+pub kept-set_aside : (pages : List Mapped) (tables aside : List TableFrame) (room count n f : ℕ) → IsKept 3 pages tables aside room count → frame_of tables 0 n ≡ Some f → IsKept 3 pages (without_table 0 n tables) (aside ++ table_frame 0 n f ∷ []) room count
+kept-set_aside pages tables aside room count n f k e = record {
+  pages_fit = k.pages_fit;
+  tables_fit =
+      let fewer = length-without_table 0 n f tables e in
+      let was = k.tables_fit in
+      let long = length-append aside (table_frame 0 n f ∷ []) in
+      omega arith;
+  ascend = k.ascend;
+  tables_lie = lie-without_table 3 0 n tables k.tables_lie;
+  aside_lie = let w = lies_at 3 0 n f tables k.tables_lie e in lie_push (table_frame 0 n f) aside k.aside_lie w.0 w.1;
+  tables_differ = differ-without_table 0 n tables k.tables_differ;
+  aside_differ = differ_push (table_frame 0 n f) aside k.aside_differ (absent (piece_of aside f) refl);
+  apart = λ g p d. apart g p (piece_of aside g) refl d;
+}
+  where
+    absent : (x : Option Piece) → piece_of aside f ≡ x → x ≡ None
+    absent None d = refl
+    absent (Some p) d = absurd (found_frame 0 n f tables e (k.apart f p d))
+
+    lie_push : (t : TableFrame) (ts : List TableFrame) → LieWithin 3 ts → t.piece.level < 3 → t.piece.number * 512 ^ suc t.piece.level < 134217728 → LieWithin 3 (ts ++ t ∷ [])
+    lie_push t [] w s r = (s, r, tt)
+    lie_push t (x ∷ ts) w s r = (w.0, w.1, lie_push t ts w.2 s r)
+
+    differ_push : (t : TableFrame) (ts : List TableFrame) → Differ ts → piece_of ts t.frame ≡ None → Differ (ts ++ t ∷ [])
+    differ_push t [] d e = (refl, tt)
+    differ_push t (x ∷ ts) d e = pick (x.frame == t.frame) refl e (differ_push t ts d.1)
+      where
+        pick : (b : Bool) → (x.frame == t.frame) ≡ b → cond b (Some x.piece) (piece_of ts t.frame) ≡ None → (piece_of ts t.frame ≡ None → Differ (ts ++ t ∷ [])) → Differ (x ∷ (ts ++ t ∷ []))
+        pick true h e on = cc
+        pick false h e on =
+            let other : (t.frame == x.frame) ≡ false = grind (arith, nat_tests, h) in
+            (rw (piece_of-push ts t x.frame, d.0, other) refl, on e)
+
+    apart : (g : ℕ) (p : Piece) (x : Option Piece) → piece_of aside g ≡ x → piece_of (aside ++ table_frame 0 n f ∷ []) g ≡ Some p → piece_of (without_table 0 n tables) g ≡ None
+    apart g p (Some q) d h = piece_of-without_none tables 0 n g (k.apart g q d)
+    apart g p None d h = same (f == g) refl (rw (piece_of-push aside (table_frame 0 n f) g, d) at h)
+      where
+        same : (b : Bool) → (f == g) ≡ b → cond b (Some (record { level = 0; number = n })) None ≡ Some p → piece_of (without_table 0 n tables) g ≡ None
+        same false b h = cc
+        same true b h = let e2 : f ≡ g = grind (arith, nat_tests, b) in subst (λ y. piece_of (without_table 0 n tables) y ≡ None) e2 (frame_gone 0 n f tables k.tables_differ e)
+
+-- ---- frames that are given back
+pub kept-no_aside : (pages : List Mapped) (tables aside : List TableFrame) (room count : ℕ) → IsKept 3 pages tables aside room count → IsKept 3 pages tables [] room count
+kept-no_aside pages tables aside room count k = record {
+  pages_fit = k.pages_fit;
+  tables_fit = let was = k.tables_fit in omega arith;
+  ascend = k.ascend;
+  tables_lie = k.tables_lie;
+  aside_lie = tt;
+  tables_differ = k.tables_differ;
+  aside_differ = tt;
+  apart = λ f p e. cc;
+}
+
+pub taken-no_aside : (pages : List Mapped) (tables aside : List TableFrame) (room count : ℕ) (free : List Bool) → IsKept 3 pages tables aside room count → HasTaken (kept pages tables aside room count) free → HasTaken (kept pages tables [] room count) (frames_given aside free)
+taken-no_aside pages tables aside room count free k h = record {
+  count = length-frames_given aside free ∙ h.count;
+  tables = λ f p e. rw (given_other aside free f (none f p e (piece_of aside f) refl)) (h.tables f p e);
+  aside = λ f p e. cc;
+}
+  where
+    none : (f : ℕ) (p : Piece) → piece_of tables f ≡ Some p → (x : Option Piece) → piece_of aside f ≡ x → x ≡ None
+    none f p e None d = refl
+    none f p e (Some q) d = let h = k.apart f q d in cc
+
+pub kept-nothing : (room count : ℕ) → IsKept 3 [] [] [] room count
+kept-nothing room count = record {
+  pages_fit = omega arith;
+  tables_fit = omega arith;
+  ascend = tt;
+  tables_lie = tt;
+  aside_lie = tt;
+  tables_differ = tt;
+  aside_differ = tt;
+  apart = λ f p e. cc;
+}
+
+pub kept-root : (room count root : ℕ) → root < count → IsKept 3 [] (table_frame 2 0 root ∷ []) [] room count
+kept-root room count root s = record {
+  pages_fit = omega arith;
+  tables_fit = omega arith;
+  ascend = tt;
+  tables_lie = (omega arith, omega arith, tt);
+  aside_lie = tt;
+  tables_differ = (refl, tt);
+  aside_differ = tt;
+  apart = λ f p e. cc;
+}
+
+abbrev pub no_table : TableFrame
+no_table = record { piece = record { level = 0; number = 0 }; frame = 0 }
+
+-- one of the tables from a place on gives its frame back
+pub record GivesOne (ts : List TableFrame) (i : ℕ) (free : List Bool) (t : TableFrame) : Type 0 where
+  pub first : IsTaken free t.frame
+  pub left : frames_given (drop (i + 1) ts) (set free t.frame true) ≡ frames_given (drop i ts) free
+  pub differ : Differ (drop (i + 1) ts)
+  pub taken : AllTaken (drop (i + 1) ts) (set free t.frame true)
+
+pub gives_one : (ts : List TableFrame) (i : ℕ) (free : List Bool) (d : TableFrame) → i < length ts → Differ (drop i ts) → AllTaken (drop i ts) free → GivesOne ts i free (get_or ts i d)
+gives_one ts i free d s differ taken =
+    let cons : drop i ts ≡ get_or ts i d ∷ drop (suc i) ts = drop-cons ts i d s in
+    let apart = rw cons at differ in
+    let all = rw cons at taken in
+    record {
+      first = first_taken (get_or ts i d) (drop (suc i) ts) free all;
+      left = rw (add-one, cons) refl;
+      differ = rw add-one apart.1;
+      taken = rw add-one (still_taken (get_or ts i d) (drop (suc i) ts) free all apart.0);
+    }
+
+-- ---- a copy under new names
+renamed_none : (names : List ℕ) (ts : List TableFrame) (f : ℕ) → ((g : ℕ) → piece_of ts g ≢ None → slice_index names g ≢ f) → piece_of (map (renamed_table names) ts) f ≡ None
+renamed_none names [] f h = refl
+renamed_none names (t ∷ ts) f h =
+    let here : (slice_index names t.frame == f) ≡ false = grind (arith, nat_tests, h t.frame there) in
+    rw here (renamed_none names ts f (λ g d. h g (later g d (t.frame == g))))
+  where
+    there : piece_of (t ∷ ts) t.frame ≢ None
+    there = let same : (t.frame == t.frame) ≡ true = grind (arith, nat_tests) in rw same (λ e. cc)
+    later : (g : ℕ) → piece_of ts g ≢ None → (b : Bool) → cond b (Some t.piece) (piece_of ts g) ≢ None
+    later g d true = λ e. cc
+    later g d false = d
+
+renamed_differ : (names : List ℕ) (ts : List TableFrame) → Differ ts → ((f g : ℕ) → piece_of ts f ≢ None → piece_of ts g ≢ None → slice_index names f ≡ slice_index names g → f ≡ g) → Differ (map (renamed_table names) ts)
+renamed_differ names [] d h = tt
+renamed_differ names (t ∷ ts) d h =
+    ( renamed_none names ts (slice_index names t.frame) (λ g some same. alone g some (h g t.frame (later g some (t.frame == g)) there same))
+    , renamed_differ names ts d.1 (λ f g a b. h f g (later f a (t.frame == f)) (later g b (t.frame == g)))
+    )
+  where
+    there : piece_of (t ∷ ts) t.frame ≢ None
+    there = let same : (t.frame == t.frame) ≡ true = grind (arith, nat_tests) in rw same (λ e. cc)
+    later : (g : ℕ) → piece_of ts g ≢ None → (b : Bool) → cond b (Some t.piece) (piece_of ts g) ≢ None
+    later g d true = λ e. cc
+    later g d false = d
+    alone : (g : ℕ) → piece_of ts g ≢ None → g ≡ t.frame → ⊥
+    alone g some same = some (subst (λ x. piece_of ts x ≡ None) (sym same) d.0)
+
+renamed_lie : (names : List ℕ) (ts : List TableFrame) → LieWithin 3 ts → LieWithin 3 (map (renamed_table names) ts)
+renamed_lie names [] w = tt
+renamed_lie names (t ∷ ts) w = (w.0, w.1, renamed_lie names ts w.2)
+
+renamed_ascend : (names : List ℕ) (low high : ℕ) (ms : List Mapped) → AscendWithin low high ms → AscendWithin low high (map (renamed_page names) ms)
+renamed_ascend names low high [] a = tt
+renamed_ascend names low high (m ∷ ms) a = (a.0, a.1, renamed_ascend names (suc m.number) high ms a.2)
+
+length-renamed : {X : Type 0} (f : X → X) (xs : List X) → length (map f xs) ≡ length xs
+length-renamed f [] = refl
+length-renamed f (x ∷ xs) = ap suc (length-renamed f xs)
+
+pub kept-renamed : (pages : List Mapped) (tables aside : List TableFrame) (room count : ℕ) (names : List ℕ) → IsKept 3 pages tables aside room count → ((f g : ℕ) → piece_of tables f ≢ None → piece_of tables g ≢ None → slice_index names f ≡ slice_index names g → f ≡ g) → IsKept 3 (map (renamed_page names) pages) (map (renamed_table names) tables) [] room count
+kept-renamed pages tables aside room count names k h = record {
+  pages_fit = let long = length-renamed (renamed_page names) pages in let was = k.pages_fit in omega arith;
+  tables_fit = let long = length-renamed (renamed_table names) tables in let was = k.tables_fit in omega arith;
+  ascend = renamed_ascend names 0 134217728 pages k.ascend;
+  tables_lie = renamed_lie names tables k.tables_lie;
+  aside_lie = tt;
+  tables_differ = renamed_differ names tables k.tables_differ h;
+  aside_differ = tt;
+  apart = λ f p e. cc;
+}

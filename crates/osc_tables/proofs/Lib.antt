@@ -5,3 +5,4 @@ pub mod Pieces
 pub mod Canonical
 pub mod KeptChanges
 pub mod Linked
+pub mod Copies

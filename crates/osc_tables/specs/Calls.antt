@@ -1,5 +1,5 @@
 -- What the calls of tables ask for and say. It is this project's own.
-use Rattle.std.specs.Prelude.{ℕ, ◌+◌, ◌-◌, ◌*◌, ◌≡◌, ◌≢◌, ◌<◌, ◌≤◌, Bool, List, [], Option, Some, None, IsSome, IsTrue, length, slice_index}
+use Rattle.std.specs.Prelude.{ℕ, ◌+◌, ◌-◌, ◌*◌, ◌≡◌, ◌≢◌, ◌<◌, ◌≤◌, Bool, List, [], Option, Some, None, IsSome, IsTrue, All, length, slice_index}
 use Rattle.osc_frames.specs.Free.{IsTaken}
 use Rattle.osc_word.specs.declared.job_list.Job.{Job}
 use Rattle.osc_sv39.specs.Walk.{is_canonical, number_of}
@@ -51,12 +51,12 @@ pub record IsNextPage (levels : ℕ) (t : KeptTables) (from page : ℕ) : Type 0
 abbrev pub NoneFrom : ℕ → KeptTables → ℕ → Type 0
 NoneFrom levels t from = (q : ℕ) → from ≤ q → mapping_of levels t q ≡ None
 
--- names give other frames of the machine for the frames of tables, and different ones for different tables
+-- all frames are those of the machine, and the names give different frames for different tables
 pub record CanRename (t : KeptTables) (names : List ℕ) : Type 0 where
   pub size : length names ≡ t.count
-  pub tables : (frame : ℕ) (p : Piece) → piece_of t.tables frame ≡ Some p → (frame < t.count) × (slice_index names frame < t.count)
-  pub pages : (n : ℕ) → (m : Mapped) → m.number ≡ n → mapping_at t.pages n ≡ Some m.mapping → m.mapping.frame < t.count
-  pub different : (f g : ℕ) (p q : Piece) → piece_of t.tables f ≡ Some p → piece_of t.tables g ≡ Some q → f ≢ g → slice_index names f ≢ slice_index names g
+  pub tables : All (λ (x : TableFrame). x.frame < t.count) t.tables
+  pub pages : All (λ (m : Mapped). m.mapping.frame < t.count) t.pages
+  pub different : (f g : ℕ) → piece_of t.tables f ≢ None → piece_of t.tables g ≢ None → slice_index names f ≡ slice_index names g → f ≡ g
 
 -- a frame that no table has yet, and there may be one more
 pub record IsFresh (t : KeptTables) (frame : ℕ) : Type 0 where

@@ -9,15 +9,17 @@ ghost use Rattle.osc_sv39.specs.Entries.{word_of};
 ghost use Rattle.osc_sv39.specs.Walk.{is_canonical, number_of};
 ghost use Rattle.osc_paging.specs.Agree.{ReadsAsLeaf};
 ghost use Rattle.osc_paging.specs.KeptTables.{closed, kept_word, link_entry, mapping_of, need, page_entry};
-ghost use Rattle.osc_paging.specs.KeptTables.{piece_of, place_of, root_of, table_at};
-ghost use Rattle.osc_paging.specs.TableChanges.{link, link_all, map_page, put_job, with_table, zero_job};
-ghost use Rattle.osc_tables.specs.Calls.{AllCanonical, HasTaken, IsFresh, IsNextPage, IsOpen, NoneFrom, changed, left};
-ghost use Rattle.osc_tables.specs.Inside.{LieWithin};
+ghost use Rattle.osc_paging.specs.KeptTables.{frame_of, piece_of, place_of, root_of, table_at};
+ghost use Rattle.osc_word.specs.declared.job_list.Job.{Job};
+ghost use Rattle.osc_paging.specs.TableChanges.{frames_given, give_leaves, link, link_all, map_page, opened, put_job, reclaim, renamed};
+ghost use Rattle.osc_paging.specs.TableChanges.{table_frame, unmap_page, with_table, without_table, zero_job};
+ghost use Rattle.osc_tables.specs.Calls.{AllCanonical, AllTaken, CanRename, HasTaken, IsClosed, IsEmptyLeaf, IsFresh, IsNextPage, IsOpen, NoneFrom, changed, left};
+ghost use Rattle.osc_tables.specs.Inside.{Differ, LieWithin};
 
 use crate::needs::need_below;
 use crate::numbers::{least_from, number_in_range, page_of, piece_over};
-use crate::page_list::{mapping_at, place_for, put_page};
-use crate::table_list::{frame_of, piece_of, put_table};
+use crate::page_list::{copy_pages, drop_page, mapping_at, place_for, put_page};
+use crate::table_list::{copy_tables, drop_table, frame_of, piece_of, put_table};
 use osc_frames::Frames;
 use osc_paging::{Mapped, Piece, TableFrame, TablePlace};
 use osc_sv39::{Mapping, PteEntry, leaf, table};
@@ -102,6 +104,17 @@ fn place_in(tables: &[TableFrame], frame: u32) -> Option<TablePlace>
 {
     let piece = piece_of(tables, frame)?;
     Some(place_of(piece))
+}
+
+/// Gives the frames of tables back.
+fn give_all(tables: &[TableFrame], frames: &mut Frames)
+    requires differ { Differ tables.now }
+    requires taken { AllTaken tables.now frames.old }
+    ensures { frames.new ≡ frames_given tables.now frames.old }
+{
+    for t in tables {
+        frames.give(t.frame);
+    }
 }
 
 impl Tables {
@@ -281,5 +294,101 @@ impl Tables {
             put_page(&mut self.pages, number, mapping);
             jobs.push(put_word(table, number, leaf(mapping.frame, mapping.bits)));
         }
+    }
+
+    /// Unmaps a page: its leaf is cleared, and its leaf table stays.
+    pub fn unmap(&mut self, page: u64, jobs: &mut Jobs)
+        requires mapped { IsSome (mapping_of 3 self.old page) }
+        requires spare { 1 ≤ spare jobs.old }
+        ensures next { (free : List Bool) → changed self.new free jobs.new.pushed
+            ≡ unmap_page (number_of 3 page) (changed self.old free jobs.old.pushed) }
+        ensures room { jobs.new.room ≡ jobs.old.room }
+    {
+        let number = page & 0x7ff_ffff;
+        if let Some(table) = frame_of(&self.tables, 0, number / 512) {
+            drop_page(&mut self.pages, number);
+            jobs.push(put_word(table, number, 0));
+        }
+    }
+
+    /// Takes a leaf table out of the tables, and keeps its frame aside.
+    fn set_aside(&mut self, number: u64, frame: u32)
+        requires { frame_of self.old.tables 0 number ≡ Some frame }
+        ensures { self.new ≡ record self.old {
+          tables = without_table 0 number self.old.tables;
+          aside = self.old.aside ++ table_frame 0 number frame ∷ [];
+        } }
+    {
+        drop_table(&mut self.tables, 0, number);
+        let piece = Piece { level: 0, number };
+        self.aside.push(TableFrame { piece, frame }).unwrap();
+    }
+
+    /// Unlinks a leaf table that has no entry. Its frame stands aside until `give_leaves`.
+    pub fn reclaim(&mut self, leaf: u64, jobs: &mut Jobs)
+        requires leaf { IsEmptyLeaf 3 self.old leaf }
+        requires spare { 1 ≤ spare jobs.old }
+        ensures next { (free : List Bool) → changed self.new free jobs.new.pushed
+            ≡ reclaim (number_of 2 leaf) (changed self.old free jobs.old.pushed) }
+        ensures room { jobs.new.room ≡ jobs.old.room }
+    {
+        let number = leaf & 0x3_ffff;
+        if let Some(frame) = frame_of(&self.tables, 0, number) {
+            if let Some(parent) = frame_of(&self.tables, 1, number / 512) {
+                self.set_aside(number, frame);
+                jobs.push(put_word(parent, number, 0));
+            }
+        }
+    }
+
+    /// Gives the frames of the leaves aside back.
+    pub fn give_leaves(&mut self, frames: &mut Frames)
+        requires taken { HasTaken self.old frames.old }
+        ensures next { (jobs : List Job) → changed self.new frames.new jobs ≡ give_leaves (changed self.old frames.old jobs) }
+        ensures taken { HasTaken self.new frames.new }
+    {
+        give_all(&self.aside, frames);
+        self.aside.clear();
+    }
+
+    /// Opens closed tables with a topmost table, whose frame the caller has taken and whose words
+    /// are 0.
+    pub fn open(&mut self, root: u32)
+        requires closed { IsClosed self.old }
+        requires taken { root < self.old.count }
+        ensures { self.new ≡ opened 2 root self.old }
+    {
+        let piece = Piece {
+            level: 2,
+            number: 0,
+        };
+        self.tables.push(TableFrame { piece, frame: root }).unwrap();
+    }
+
+    /// Closes open tables without a leaf aside, and gives their frames back.
+    pub fn close(&mut self, frames: &mut Frames)
+        requires opened { IsOpen 2 self.old }
+        requires aside { self.old.aside ≡ [] }
+        requires taken { HasTaken self.old frames.old }
+        ensures closed { self.new ≡ closed self.old.count self.old.room }
+        ensures given { frames.new ≡ frames_given self.old.tables frames.old }
+    {
+        give_all(&self.tables, frames);
+        self.pages.clear();
+        self.tables.clear();
+        self.aside.clear();
+    }
+
+    /// Copies open tables without a leaf aside to closed ones of the same machine, with each frame
+    /// under its new name.
+    pub fn copy_to(&self, child: &mut Tables, names: &[u32])
+        requires opened { IsOpen 2 self.now }
+        requires aside { self.now.aside ≡ [] }
+        requires closed { child.old ≡ closed self.now.count self.now.room }
+        requires names { CanRename self.now names.now }
+        ensures { child.new ≡ renamed names.now self.now }
+    {
+        copy_pages(&self.pages, &mut child.pages, names);
+        copy_tables(&self.tables, &mut child.tables, names);
     }
 }

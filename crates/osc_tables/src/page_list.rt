@@ -1,10 +1,11 @@
 //! Lists of mapped pages in the order of their numbers.
 #![tactic(auto, using(crate::proofs::PagePlaces::page_places))]
 
-ghost use Rattle.std.specs.Prelude.{◌≡◌, ◌+◌, ◌<◌, ◌≤◌, ◌^◌, length, MatchOption};
+ghost use Rattle.std.specs.Prelude.{◌≡◌, ◌+◌, ◌<◌, ◌≤◌, ◌^◌, length, MatchOption, All, map, []};
 ghost use Rattle.std.specs.Vec.{vec_len, vec_capacity};
 ghost use Rattle.osc_paging.specs.KeptTables.{mapping_at};
-ghost use Rattle.osc_paging.specs.TableChanges.{with_page, without_page};
+ghost use Rattle.osc_paging.specs.TableChanges.{renamed_page, with_page, without_page};
+ghost use Rattle.osc_paging.specs.declared.Mapped.{Mapped};
 ghost use Rattle.osc_tables.specs.Inside.{AscendWithin};
 ghost use Rattle.osc_tables.specs.Places.{place_for, StandsAt};
 
@@ -75,5 +76,28 @@ pub fn drop_page(pages: &mut Vec<Mapped>, number: u64)
 {
     if let Some(at) = find_page(pages, number) {
         let _gone = pages.remove(at);
+    }
+}
+
+/// Copies pages, with each frame under its new name.
+#[tactic(auto, using(crate::proofs::Copies::copy_facts))]
+pub fn copy_pages(pages: &[Mapped], into: &mut Vec<Mapped>, names: &[u32])
+    requires frames { All (λ (m : Mapped). m.mapping.frame < length names.now) pages.now }
+    requires empty { into.old.items ≡ [] }
+    requires room { length pages.now ≤ vec_capacity into.old }
+    ensures items { into.new.items ≡ map (renamed_page names.now) pages.now }
+    ensures capacity { vec_capacity into.old ≤ vec_capacity into.new }
+{
+    for m in pages {
+        let frame = names[m.mapping.frame as usize];
+        let mapping = Mapping {
+            frame,
+            bits: m.mapping.bits,
+        };
+        into.push(Mapped {
+            number: m.number,
+            mapping,
+        })
+        .unwrap();
     }
 }

@@ -1,10 +1,11 @@
 //! Lists of tables in the order of level and number.
 #![tactic(auto, using(crate::proofs::TableScans::table_scans))]
 
-ghost use Rattle.std.specs.Prelude.{◌≡◌, ◌+◌, ◌<◌, ◌≤◌, length};
+ghost use Rattle.std.specs.Prelude.{◌≡◌, ◌+◌, ◌<◌, ◌≤◌, length, All, map, []};
 ghost use Rattle.std.specs.Vec.{vec_len, vec_capacity};
 ghost use Rattle.osc_paging.specs.KeptTables.{frame_of, piece_of};
-ghost use Rattle.osc_paging.specs.TableChanges.{is_before, with_table, without_table};
+ghost use Rattle.osc_paging.specs.TableChanges.{is_before, renamed_table, with_table, without_table};
+ghost use Rattle.osc_paging.specs.declared.TableFrame.{TableFrame};
 
 use osc_paging::{Piece, TableFrame};
 
@@ -66,5 +67,24 @@ pub fn drop_table(tables: &mut Vec<TableFrame>, level: u8, number: u64)
         } else {
             at += 1;
         }
+    }
+}
+
+/// Copies tables, with each frame under its new name.
+#[tactic(auto, using(crate::proofs::Copies::copy_facts))]
+pub fn copy_tables(tables: &[TableFrame], into: &mut Vec<TableFrame>, names: &[u32])
+    requires frames { All (λ (t : TableFrame). t.frame < length names.now) tables.now }
+    requires empty { into.old.items ≡ [] }
+    requires room { length tables.now ≤ vec_capacity into.old }
+    ensures items { into.new.items ≡ map (renamed_table names.now) tables.now }
+    ensures capacity { vec_capacity into.old ≤ vec_capacity into.new }
+{
+    for t in tables {
+        let frame = names[t.frame as usize];
+        into.push(TableFrame {
+            piece: t.piece,
+            frame,
+        })
+        .unwrap();
     }
 }

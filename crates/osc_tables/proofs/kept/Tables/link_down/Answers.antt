@@ -20,7 +20,7 @@ loop-level-preserved c =
     record {
       next =
           ap (link_all (c.loop-level.level - 1) c.args.number) (c.link.ensures.next ∙ ap (λ n. link (c.loop-level.level - 1) n (changed c.loop-level.self c.loop-level.frames c.loop-level.jobs.pushed)) c.piece_over-above.ensures.piece)
-              ∙ sym (link_all-step c.loop-level.level c.args.number _ (omega arith)) ∙ inv.next;
+          ∙ sym (link_all-step c.loop-level.level c.args.number _ (omega arith)) ∙ inv.next;
       level = omega arith;
       taken = c.link.ensures.taken;
       room = c.link.ensures.room ∙ inv.room;

@@ -23,12 +23,12 @@ invariant_of-self c =
     let room : c.self.inside.room ≡ c.args.self.now.room = ap (λ (t : KeptTables). t.room) same in
     let number : bit_and c.args.page 134217727 ≡ c.args.page % 134217728 = and_mask c.args.page 27 in
     let none : mapping_at c.self.inside.pages.items (bit_and c.args.page 134217727) ≡ None = rw (pages, number) (unmapped_at c.args.self.now c.args.page c.requires.canonical c.requires.unmapped) in
-    rw c.put_page.ensures.items
-        ( kept-with_page c.self.inside.pages.items c.self.inside.tables.items c.self.inside.aside.items c.self.inside.room c.self.inside.count (bit_and c.args.page 134217727) c.args.mapping c.self.invariant.0 (omega (arith, c.requires.left)) (rw number (omega arith)) none
-        , omega (arith, c.self.invariant.1, c.put_page.ensures.capacity)
-        , c.self.invariant.2
-        , c.self.invariant.3
-        )
+    rw c.put_page.ensures.items (
+      kept-with_page c.self.inside.pages.items c.self.inside.tables.items c.self.inside.aside.items c.self.inside.room c.self.inside.count (bit_and c.args.page 134217727) c.args.mapping c.self.invariant.0 (omega (arith, c.requires.left)) (rw number (omega arith)) none,
+      omega (arith, c.self.invariant.1, c.put_page.ensures.capacity),
+      c.self.invariant.2,
+      c.self.invariant.3,
+    )
 
 pub returns-in-Some-clause-taken : goal.returns-in-Some-clause-taken
 returns-in-Some-clause-taken c =
