@@ -8,7 +8,7 @@ use Rattle.osc_paging.specs.declared.Mapped.{Mapped}
 use Rattle.osc_paging.specs.KeptTables.{KeptTables, page_numbered, mapping_at, mapping_of}
 use Rattle.osc_tables.specs.Inside.{AscendWithin}
 use Rattle.osc_tables.specs.Places.{place_for, least_from}
-use Rattle.osc_tables.specs.Calls.{AllCanonical, IsNextPage, NoneFrom}
+use Rattle.osc_tables.specs.Calls.{AllCanonical, IsNextPage, MapsTo, NoneFrom}
 use Rattle.osc_tables.proofs.PagePlaces.{mapping_at-found, ascends-high}
 
 -- a canonical page lies in the lower or in the upper half
@@ -105,7 +105,7 @@ some_there None h = cc
 some_there (Some m) h = λ e. cc
 
 -- what may be read of a page that is mapped
-canonical_mapped : (t : KeptTables) (q : ℕ) → IsSome (mapping_of 3 t q) → (is_canonical 3 q ≡ true) × (mapping_at t.pages (number_of 3 q) ≢ None)
+pub canonical_mapped : (t : KeptTables) (q : ℕ) → IsSome (mapping_of 3 t q) → (is_canonical 3 q ≡ true) × (mapping_at t.pages (number_of 3 q) ≢ None)
 canonical_mapped t q h = pick (is_canonical 3 q) refl
   where
     pick : (b : Bool) → is_canonical 3 q ≡ b → (is_canonical 3 q ≡ true) × (mapping_at t.pages (number_of 3 q) ≢ None)
@@ -156,3 +156,22 @@ next_page_found t from n i m a e p s d =
 
 pub next_page_small : (ms : List Mapped) (i : ℕ) (m : Mapped) → AscendWithin 0 134217728 ms → i < length ms → m ≡ get_or ms i m → m.number < 134217728
 next_page_small ms i m a s d = subst (λ (x : Mapped). x.number < 134217728) (sym d) (ascends-high 0 134217728 ms i m a s)
+
+-- ---- what is mapped after a change
+same_page : (p q : ℕ) → is_canonical 3 p ≡ true → is_canonical 3 q ≡ true → (number_of 3 p == number_of 3 q) ≡ (p == q)
+same_page p q e f = let h = halves p e in let k = halves q f in grind (arith, nat_tests, h.half, k.half)
+
+pub maps_to : (t u : KeptTables) (page : ℕ) (x : Option Mapping) → is_canonical 3 page ≡ true → ((n : ℕ) → mapping_at u.pages n ≡ cond (number_of 3 page == n) x (mapping_at t.pages n)) → MapsTo 3 page x t u
+maps_to t u page x e h q = go (is_canonical 3 q) refl
+  where
+    go : (b : Bool) → is_canonical 3 q ≡ b → cond b (mapping_at u.pages (number_of 3 q)) None ≡ cond (page == q) x (cond b (mapping_at t.pages (number_of 3 q)) None)
+    go true f = h (number_of 3 q) ∙ rw (same_page page q e f) refl
+    go false f = rw (other (page == q) refl) refl
+      where
+        other : (b : Bool) → (page == q) ≡ b → b ≡ false
+        other false d = refl
+        other true d = let same : page ≡ q = grind (arith, nat_tests, d) in absurd (no_true (sym f ∙ (rw same at e)))
+
+pub some_root : (x : Option ℕ) → IsSome x → (root : ℕ) × (x ≡ Some root)
+some_root None h = cc
+some_root (Some root) h = (root, refl)

@@ -405,22 +405,25 @@ renamed_none names (t ∷ ts) f h =
   where
     there : piece_of (t ∷ ts) t.frame ≢ None
     there = let same : (t.frame == t.frame) ≡ true = grind (arith, nat_tests) in rw same (λ e. cc)
+
     later : (g : ℕ) → piece_of ts g ≢ None → (b : Bool) → cond b (Some t.piece) (piece_of ts g) ≢ None
     later g d true = λ e. cc
     later g d false = d
 
 renamed_differ : (names : List ℕ) (ts : List TableFrame) → Differ ts → ((f g : ℕ) → piece_of ts f ≢ None → piece_of ts g ≢ None → slice_index names f ≡ slice_index names g → f ≡ g) → Differ (map (renamed_table names) ts)
 renamed_differ names [] d h = tt
-renamed_differ names (t ∷ ts) d h =
-    ( renamed_none names ts (slice_index names t.frame) (λ g some same. alone g some (h g t.frame (later g some (t.frame == g)) there same))
-    , renamed_differ names ts d.1 (λ f g a b. h f g (later f a (t.frame == f)) (later g b (t.frame == g)))
-    )
+renamed_differ names (t ∷ ts) d h = (
+  renamed_none names ts (slice_index names t.frame) (λ g some same. alone g some (h g t.frame (later g some (t.frame == g)) there same)),
+  renamed_differ names ts d.1 (λ f g a b. h f g (later f a (t.frame == f)) (later g b (t.frame == g))),
+)
   where
     there : piece_of (t ∷ ts) t.frame ≢ None
     there = let same : (t.frame == t.frame) ≡ true = grind (arith, nat_tests) in rw same (λ e. cc)
+
     later : (g : ℕ) → piece_of ts g ≢ None → (b : Bool) → cond b (Some t.piece) (piece_of ts g) ≢ None
     later g d true = λ e. cc
     later g d false = d
+
     alone : (g : ℕ) → piece_of ts g ≢ None → g ≡ t.frame → ⊥
     alone g some same = some (subst (λ x. piece_of ts x ≡ None) (sym same) d.0)
 

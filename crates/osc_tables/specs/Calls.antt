@@ -1,7 +1,8 @@
 -- What the calls of tables ask for and say. It is this project's own.
-use Rattle.std.specs.Prelude.{ℕ, ◌+◌, ◌-◌, ◌*◌, ◌≡◌, ◌≢◌, ◌<◌, ◌≤◌, Bool, List, [], Option, Some, None, IsSome, IsTrue, All, length, slice_index}
+use Rattle.std.specs.Prelude.{ℕ, ◌+◌, ◌-◌, ◌*◌, ◌≡◌, ◌≢◌, ◌<◌, ◌≤◌, Bool, List, [], Option, Some, None, IsSome, IsTrue, All, length, slice_index, ◌==◌, if◌then◌else◌}
 use Rattle.osc_frames.specs.Free.{IsTaken}
 use Rattle.osc_word.specs.declared.job_list.Job.{Job}
+use Rattle.osc_sv39.specs.declared.entries.Mapping.{Mapping}
 use Rattle.osc_sv39.specs.Walk.{is_canonical, number_of}
 use Rattle.osc_paging.specs.declared.Piece.{Piece}
 use Rattle.osc_paging.specs.declared.TableFrame.{TableFrame}
@@ -63,3 +64,8 @@ pub record IsFresh (t : KeptTables) (frame : ℕ) : Type 0 where
   pub no_table : piece_of t.tables frame ≡ None
   pub not_aside : piece_of t.aside frame ≡ None
   pub fits : length t.tables + length t.aside < t.count
+
+-- the page maps to this and no other page changes
+abbrev pub MapsTo : ℕ → ℕ → Option Mapping → KeptTables → KeptTables → Type 0
+MapsTo levels page mapping old new =
+    (q : ℕ) → mapping_of levels new q ≡ (if page == q then mapping else mapping_of levels old q)

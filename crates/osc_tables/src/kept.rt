@@ -9,11 +9,11 @@ ghost use Rattle.osc_sv39.specs.Entries.{word_of};
 ghost use Rattle.osc_sv39.specs.Walk.{is_canonical, number_of};
 ghost use Rattle.osc_paging.specs.Agree.{ReadsAsLeaf};
 ghost use Rattle.osc_paging.specs.KeptTables.{closed, kept_word, link_entry, mapping_of, need, page_entry};
-ghost use Rattle.osc_paging.specs.KeptTables.{frame_of, piece_of, place_of, root_of, table_at};
+ghost use Rattle.osc_paging.specs.KeptTables.{frame_of, mapping_at, piece_of, place_of, root_of, table_at};
 ghost use Rattle.osc_word.specs.declared.job_list.Job.{Job};
 ghost use Rattle.osc_paging.specs.TableChanges.{frames_given, give_leaves, link, link_all, map_page, opened, put_job, reclaim, renamed};
-ghost use Rattle.osc_paging.specs.TableChanges.{table_frame, unmap_page, with_table, without_table, zero_job};
-ghost use Rattle.osc_tables.specs.Calls.{AllCanonical, AllTaken, CanRename, HasTaken, IsClosed, IsEmptyLeaf, IsFresh, IsNextPage, IsOpen, NoneFrom, changed, left};
+ghost use Rattle.osc_paging.specs.TableChanges.{table_frame, unmap_page, with_table, without_page, without_table, zero_job};
+ghost use Rattle.osc_tables.specs.Calls.{AllCanonical, AllTaken, CanRename, HasTaken, IsClosed, IsEmptyLeaf, IsFresh, MapsTo, IsNextPage, IsOpen, NoneFrom, changed, left};
 ghost use Rattle.osc_tables.specs.Inside.{Differ, LieWithin};
 
 use crate::needs::need_below;
@@ -273,6 +273,25 @@ impl Tables {
         }
     }
 
+    /// Maps the page of a number.
+    fn map_number(&mut self, number: u64, mapping: Mapping, frames: &mut Frames, jobs: &mut Jobs)
+        requires range { number < 512 ^ 3 }
+        requires unmapped { mapping_at self.old.pages number ≡ None }
+        requires left { 0 < left self.old }
+        requires taken { HasTaken self.old frames.old }
+        requires spare { 5 ≤ spare jobs.old }
+        ensures next { changed self.new frames.new jobs.new.pushed
+            ≡ map_page 2 number mapping (changed self.old frames.old jobs.old.pushed) }
+        ensures taken { HasTaken self.new frames.new }
+        ensures room { jobs.new.room ≡ jobs.old.room }
+    {
+        self.link_down(number, frames, jobs);
+        if let Some(table) = frame_of(&self.tables, 0, number / 512) {
+            put_page(&mut self.pages, number, mapping);
+            jobs.push(put_word(table, number, leaf(mapping.frame, mapping.bits)));
+        }
+    }
+
     /// Maps a page: the tables over it that are missing are linked, and its leaf is put.
     pub fn map(&mut self, page: u64, mapping: Mapping, frames: &mut Frames, jobs: &mut Jobs)
         requires opened { IsOpen 2 self.old }
@@ -283,16 +302,31 @@ impl Tables {
         requires taken { HasTaken self.old frames.old }
         requires need { need self.old.tables 2 (number_of 3 page) 1 ≤ free_count frames.old }
         requires spare { 5 ≤ spare jobs.old }
+
+        // Tables, frames and jobs are those of the rule.
         ensures next { changed self.new frames.new jobs.new.pushed
             ≡ map_page 2 (number_of 3 page) mapping (changed self.old frames.old jobs.old.pushed) }
         ensures taken { HasTaken self.new frames.new }
         ensures room { jobs.new.room ≡ jobs.old.room }
+
+        // So the page is mapped, no other page changes, and the frames are those that were needed.
+        ensures mapped { MapsTo 3 page (Some mapping) self.old self.new }
+        ensures frames { free_count frames.new + need self.old.tables 2 (number_of 3 page) 1 ≡ free_count frames.old }
     {
-        let number = page & 0x7ff_ffff;
-        self.link_down(number, frames, jobs);
+        self.map_number(page & 0x7ff_ffff, mapping, frames, jobs);
+    }
+
+    /// Unmaps the page of a number.
+    fn unmap_number(&mut self, number: u64, jobs: &mut Jobs)
+        requires spare { 1 ≤ spare jobs.old }
+        ensures next { (free : List Bool) → changed self.new free jobs.new.pushed
+            ≡ unmap_page number (changed self.old free jobs.old.pushed) }
+        ensures pages { self.new ≡ record self.old { pages = without_page number self.old.pages } }
+        ensures room { jobs.new.room ≡ jobs.old.room }
+    {
+        drop_page(&mut self.pages, number);
         if let Some(table) = frame_of(&self.tables, 0, number / 512) {
-            put_page(&mut self.pages, number, mapping);
-            jobs.push(put_word(table, number, leaf(mapping.frame, mapping.bits)));
+            jobs.push(put_word(table, number, 0));
         }
     }
 
@@ -300,15 +334,16 @@ impl Tables {
     pub fn unmap(&mut self, page: u64, jobs: &mut Jobs)
         requires mapped { IsSome (mapping_of 3 self.old page) }
         requires spare { 1 ≤ spare jobs.old }
+
+        // Tables and jobs are those of the rule.
         ensures next { (free : List Bool) → changed self.new free jobs.new.pushed
             ≡ unmap_page (number_of 3 page) (changed self.old free jobs.old.pushed) }
         ensures room { jobs.new.room ≡ jobs.old.room }
+
+        // So the page is mapped no more, and no other page changes.
+        ensures unmapped { MapsTo 3 page None self.old self.new }
     {
-        let number = page & 0x7ff_ffff;
-        if let Some(table) = frame_of(&self.tables, 0, number / 512) {
-            drop_page(&mut self.pages, number);
-            jobs.push(put_word(table, number, 0));
-        }
+        self.unmap_number(page & 0x7ff_ffff, jobs);
     }
 
     /// Takes a leaf table out of the tables, and keeps its frame aside.

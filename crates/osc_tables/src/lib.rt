@@ -11,6 +11,9 @@ mod table_list;
 
 pub use kept::Tables;
 pub use osc_paging::{
-    TablePlace, changes_keep_agreement, mapping_takes_need, stores_elsewhere_keep,
+    TablePlace, changes_keep_agreement, mapping_takes_need, stores_elsewhere_keep, tables_stand_above,
     walk_gives_mapping,
 };
+
+#[cfg(test)]
+mod tests;

@@ -1,36 +1,28 @@
--- A page more, in its place.
-use Rattle.std.proofs.Common.{◌≡◌, ◌<◌, ◌∙◌, ap, sym, None, length, arith, ℕ, List, ◌%◌}
+-- By the law of mappings.
+use Rattle.std.proofs.Common.{◌≡◌, ◌∙◌, ◌%◌, ◌+◌, ap, Some, arith, ℕ}
 use Rattle.std.specs.Int.RustNames.{bit_and}
 use Rattle.std.proofs.lemmas.Nat.{and_mask}
-use Rattle.osc_paging.specs.declared.Mapped.{Mapped}
-use Rattle.osc_paging.specs.KeptTables.{KeptTables, mapping_at}
-use Rattle.osc_tables.specs.Inside.{kept}
-use Rattle.osc_tables.proofs.KeptChanges.{kept-with_page, unmapped_at, same_taken}
+use Rattle.osc_frames.specs.Free.{free_count}
+use Rattle.osc_sv39.specs.Walk.{number_of}
+use Rattle.osc_paging.specs.KeptTables.{mapping_at, need, root_of}
+use Rattle.osc_paging.specs.TableChanges.{Changed}
+use Rattle.osc_paging.proofs.TableLawProofs.{mapping_takes_need}
+use Rattle.osc_tables.specs.Calls.{changed}
+use Rattle.osc_tables.proofs.Canonical.{maps_to, some_root}
 use Rattle.osc_tables.proofs.kept.Tables.map.Goals as goal
 
-pub put_page-requires-clause-room : goal.put_page-requires-clause-room
-put_page-requires-clause-room c =
-    let same = c.self.view_is ∙ c.link_down.ensures.rest in
-    let pages : length c.self.inside.pages.items ≡ length c.args.self.now.pages = ap (λ (t : KeptTables). length t.pages) same in
-    let room : c.self.inside.room ≡ c.args.self.now.room = ap (λ (t : KeptTables). t.room) same in
-    omega (arith, c.self.inside.pages.ok.0, c.self.invariant.1, c.requires.left)
-
-pub invariant_of-self : goal.invariant_of-self
-invariant_of-self c =
-    let same = c.self.view_is ∙ c.link_down.ensures.rest in
-    let pages : c.self.inside.pages.items ≡ c.args.self.now.pages = ap (λ (t : KeptTables). t.pages) same in
-    let long : length c.self.inside.pages.items ≡ length c.args.self.now.pages = ap length pages in
-    let room : c.self.inside.room ≡ c.args.self.now.room = ap (λ (t : KeptTables). t.room) same in
+pub returns-clause-mapped : goal.returns-clause-mapped
+returns-clause-mapped c =
     let number : bit_and c.args.page 134217727 ≡ c.args.page % 134217728 = and_mask c.args.page 27 in
-    let none : mapping_at c.self.inside.pages.items (bit_and c.args.page 134217727) ≡ None = rw (pages, number) (unmapped_at c.args.self.now c.args.page c.requires.canonical c.requires.unmapped) in
-    rw c.put_page.ensures.items (
-      kept-with_page c.self.inside.pages.items c.self.inside.tables.items c.self.inside.aside.items c.self.inside.room c.self.inside.count (bit_and c.args.page 134217727) c.args.mapping c.self.invariant.0 (omega (arith, c.requires.left)) (rw number (omega arith)) none,
-      omega (arith, c.self.invariant.1, c.put_page.ensures.capacity),
-      c.self.invariant.2,
-      c.self.invariant.3,
-    )
+    let next = rw number at c.map_number.ensures.next in
+    let root = some_root (root_of 2 c.args.self.now) c.requires.opened in
+    let law = mapping_takes_need 2 (number_of 3 c.args.page) root.0 c.args.mapping (changed c.args.self.now c.args.frames.now c.args.jobs.now.pushed) root.1 (omega arith) c.requires.need in
+    maps_to c.args.self.now c.map_number.new.self c.args.page (Some c.args.mapping) c.requires.canonical (λ n. ap (λ (d : Changed). mapping_at d.tables.pages n) next ∙ law.pages n)
 
-pub returns-in-Some-clause-taken : goal.returns-in-Some-clause-taken
-returns-in-Some-clause-taken c =
-    let taken = rw (← c.self.view_is) at c.link_down.ensures.taken in
-    record { count = taken.count; tables = taken.tables; aside = taken.aside }
+pub returns-clause-frames : goal.returns-clause-frames
+returns-clause-frames c =
+    let number : bit_and c.args.page 134217727 ≡ c.args.page % 134217728 = and_mask c.args.page 27 in
+    let next = rw number at c.map_number.ensures.next in
+    let root = some_root (root_of 2 c.args.self.now) c.requires.opened in
+    let law = mapping_takes_need 2 (number_of 3 c.args.page) root.0 c.args.mapping (changed c.args.self.now c.args.frames.now c.args.jobs.now.pushed) root.1 (omega arith) c.requires.need in
+    ap (λ (d : Changed). free_count d.free + need c.args.self.now.tables 2 (number_of 3 c.args.page) 1) next ∙ law.taken
