@@ -52,6 +52,7 @@ free_frames free = count_by (λ b. b) free
 
 -- a mapping takes as many frames as are needed, and no other page changes
 pub record MapsPage (top number : ℕ) (mapping : Mapping) (c d : Changed) : Type 0 where
+  pub root : root_of top d.tables ≡ root_of top c.tables
   pub taken : free_frames d.free + need c.tables.tables top number 1 ≡ free_frames c.free
   pub pages : (q : ℕ) → mapping_at d.tables.pages q ≡ (if number == q then Some mapping else mapping_at c.tables.pages q)
 

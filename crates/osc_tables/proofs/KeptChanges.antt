@@ -450,3 +450,29 @@ kept-renamed pages tables aside room count names k h = record {
   aside_differ = tt;
   apart = λ f p e. cc;
 }
+
+-- ---- what is taken after a leaf was set aside, and after a page was unmapped
+taken_any : (ts : List TableFrame) (free : List Bool) (f : ℕ) → AllTaken ts free → piece_of ts f ≢ None → IsTaken free f
+taken_any ts free f all h = go (piece_of ts f) (all f) h
+  where
+    go : (x : Option Piece) → ((p : Piece) → x ≡ Some p → IsTaken free f) → x ≢ None → IsTaken free f
+    go None a h = absurd (h refl)
+    go (Some p) a h = a p refl
+
+pub taken-set_aside : (t : KeptTables) (free : List Bool) (n f : ℕ) → HasTaken t free → frame_of t.tables 0 n ≡ Some f → HasTaken (record t { tables = without_table 0 n t.tables; aside = t.aside ++ table_frame 0 n f ∷ [] }) free
+taken-set_aside t free n f h e = record {
+  count = h.count;
+  tables = λ g p d. taken_any t.tables free g h.tables (λ none. (let gone = piece_of-without_none t.tables 0 n g none in cc));
+  aside = λ g p d. aside g p (piece_of t.aside g) refl d;
+}
+  where
+    aside : (g : ℕ) (p : Piece) (x : Option Piece) → piece_of t.aside g ≡ x → piece_of (t.aside ++ table_frame 0 n f ∷ []) g ≡ Some p → IsTaken free g
+    aside g p (Some q) d k = h.aside g q d
+    aside g p None d k = same (f == g) refl (rw (piece_of-push t.aside (table_frame 0 n f) g, d) at k)
+      where
+        same : (b : Bool) → (f == g) ≡ b → cond b (Some (record { level = 0; number = n })) None ≡ Some p → IsTaken free g
+        same false b k = cc
+        same true b k = let e2 : f ≡ g = grind (arith, nat_tests, b) in subst (λ y. IsTaken free y) e2 (taken_any t.tables free f h.tables (found_frame 0 n f t.tables e))
+
+pub taken-pages : (t : KeptTables) (free : List Bool) (pages : List Mapped) → HasTaken t free → HasTaken (record t { pages = pages }) free
+taken-pages t free pages h = record { count = h.count; tables = h.tables; aside = h.aside }

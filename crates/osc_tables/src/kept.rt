@@ -2,7 +2,7 @@
 #![tactic(auto, using(crate::proofs::KeptFacts::kept_facts))]
 
 ghost use Rattle.std.specs.Prelude.{◌≡◌, ◌≢◌, ◌+◌, ◌*◌, ◌%◌, ◌/◌, ◌^◌, ◌<◌, ◌≤◌, ◌++◌, ◌∷◌, [], ℕ, suc, List, Bool, length, if◌then◌else◌};
-ghost use Rattle.std.specs.Prelude.{IfOk, IsSome, IsTrue, MatchOption, Some, None, option_map};
+ghost use Rattle.std.specs.Prelude.{IfOk, is_some, IsSome, IsTrue, MatchOption, Some, None, option_map};
 ghost use Rattle.osc_word.specs.JobList.{spare};
 ghost use Rattle.osc_frames.specs.Free.{free_count};
 ghost use Rattle.osc_sv39.specs.Entries.{word_of};
@@ -311,6 +311,7 @@ impl Tables {
 
         // So the page is mapped, no other page changes, and the frames are those that were needed.
         ensures mapped { MapsTo 3 page (Some mapping) self.old self.new }
+        ensures root { root_of 2 self.new ≡ root_of 2 self.old }
         ensures frames { free_count frames.new + need self.old.tables 2 (number_of 3 page) 1 ≡ free_count frames.old }
     {
         self.map_number(page & 0x7ff_ffff, mapping, frames, jobs);
@@ -342,6 +343,7 @@ impl Tables {
 
         // So the page is mapped no more, and no other page changes.
         ensures unmapped { MapsTo 3 page None self.old self.new }
+        ensures taken { (free : List Bool) → HasTaken self.old free → HasTaken self.new free }
     {
         self.unmap_number(page & 0x7ff_ffff, jobs);
     }
@@ -349,10 +351,11 @@ impl Tables {
     /// Takes a leaf table out of the tables, and keeps its frame aside.
     fn set_aside(&mut self, number: u64, frame: u32)
         requires { frame_of self.old.tables 0 number ≡ Some frame }
-        ensures { self.new ≡ record self.old {
+        ensures next { self.new ≡ record self.old {
           tables = without_table 0 number self.old.tables;
           aside = self.old.aside ++ table_frame 0 number frame ∷ [];
         } }
+        ensures taken { (free : List Bool) → HasTaken self.old free → HasTaken self.new free }
     {
         drop_table(&mut self.tables, 0, number);
         let piece = Piece { level: 0, number };
@@ -366,6 +369,7 @@ impl Tables {
         ensures next { (free : List Bool) → changed self.new free jobs.new.pushed
             ≡ reclaim (number_of 2 leaf) (changed self.old free jobs.old.pushed) }
         ensures room { jobs.new.room ≡ jobs.old.room }
+        ensures taken { (free : List Bool) → HasTaken self.old free → HasTaken self.new free }
     {
         let number = leaf & 0x3_ffff;
         if let Some(frame) = frame_of(&self.tables, 0, number) {
@@ -425,5 +429,15 @@ impl Tables {
     {
         copy_pages(&self.pages, &mut child.pages, names);
         copy_tables(&self.tables, &mut child.tables, names);
+    }
+}
+
+#[cfg(test)]
+impl Tables {
+    /// Whether the leaf table of a number is linked.
+    pub fn is_linked(&self, number: u64) -> bool
+        ensures { result ≡ is_some (frame_of self.now.tables 0 number) }
+    {
+        frame_of(&self.tables, 0, number).is_some()
     }
 }

@@ -11,8 +11,8 @@ mod table_list;
 
 pub use kept::Tables;
 pub use osc_paging::{
-    TablePlace, changes_keep_agreement, mapping_takes_need, stores_elsewhere_keep, tables_stand_above,
-    walk_gives_mapping,
+    TablePlace, changes_keep_agreement, mapping_takes_need, stores_elsewhere_keep,
+    tables_stand_above, walk_gives_mapping,
 };
 
 #[cfg(test)]

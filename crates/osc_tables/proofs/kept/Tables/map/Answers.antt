@@ -26,3 +26,11 @@ returns-clause-frames c =
     let root = some_root (root_of 2 c.args.self.now) c.requires.opened in
     let law = mapping_takes_need 2 (number_of 3 c.args.page) root.0 c.args.mapping (changed c.args.self.now c.args.frames.now c.args.jobs.now.pushed) root.1 (omega arith) c.requires.need in
     ap (λ (d : Changed). free_count d.free + need c.args.self.now.tables 2 (number_of 3 c.args.page) 1) next ∙ law.taken
+
+pub returns-clause-root : goal.returns-clause-root
+returns-clause-root c =
+    let number : bit_and c.args.page 134217727 ≡ c.args.page % 134217728 = and_mask c.args.page 27 in
+    let next = rw number at c.map_number.ensures.next in
+    let root = some_root (root_of 2 c.args.self.now) c.requires.opened in
+    let law = mapping_takes_need 2 (number_of 3 c.args.page) root.0 c.args.mapping (changed c.args.self.now c.args.frames.now c.args.jobs.now.pushed) root.1 (omega arith) c.requires.need in
+    ap (λ (d : Changed). root_of 2 d.tables) next ∙ law.root
