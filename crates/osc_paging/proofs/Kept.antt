@@ -189,6 +189,7 @@ gone-agrees entries top c words number none g = record {
     parents : (l n : ℕ) → l ≤ top → child (leaf_taken number None c).tables l n ≢ Absent → frame_of c.tables.tables l (n / 512) ≢ None
     parents zero n s h = grind (arith, nat_tests, g.parents zero n s, mapping_at-without_page c.tables.pages number n)
     parents (suc l) n s h = g.parents (suc l) n s h
+
     agree : (f i l n : ℕ) → i < 512 → piece_of c.tables.tables f ≡ Some (record { level = l; number = n }) → word_at (words_after entries c.jobs words) f i ≡ word_of (child (leaf_taken number None c).tables l (n * 512 + i))
     agree f i zero n s e =
         let was : word_at (words_after entries c.jobs words) f i ≡ word_of (child c.tables 0 (n * 512 + i)) = g.agree f i _ s e in

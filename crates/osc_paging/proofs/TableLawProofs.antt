@@ -150,6 +150,7 @@ tables_stand_above top t free words g = record {
     mapped : (x : Option Mapping) → x ≢ None → page_entry x ≢ Absent
     mapped None h = absurd (h refl)
     mapped (Some m) h = λ d. cc
+
     linked : (x : Option ℕ) → x ≢ None → link_entry x ≢ Absent
     linked None h = absurd (h refl)
     linked (Some f) h = λ d. cc

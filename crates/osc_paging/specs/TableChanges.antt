@@ -106,7 +106,7 @@ leaf_cleared number (Some table) c = record c { jobs = c.jobs ++ put_job table (
 abbrev pub unmap_page : ℕ → Changed → Changed
 unmap_page number c =
     leaf_cleared number (frame_of c.tables.tables 0 (number / 512))
-        (record c { tables = record (c.tables) { pages = without_page number c.tables.pages } })
+    (record c { tables = record (c.tables) { pages = without_page number c.tables.pages } })
 
 -- ---- leaf tables without an entry
 abbrev pub unlinked : ℕ → Option ℕ → Option ℕ → Changed → Changed

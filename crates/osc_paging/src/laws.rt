@@ -35,8 +35,7 @@ pub fn changes_keep_agreement()
 /// topmost one is linked: so an unmapping clears one leaf, and a reclaim one link.
 pub fn tables_stand_above()
     ensures { TablesStandAbove }
-{
-}
+{}
 
 /// A mapping takes exactly the frames that are needed, and so do ascending mappings together.
 pub fn mapping_takes_need()

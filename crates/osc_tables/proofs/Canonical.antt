@@ -1,6 +1,6 @@
 -- Canonical pages and their numbers, at three levels.
-use Rattle.std.proofs.Common.{ℕ, zero, suc, ◌≡◌, ◌≢◌, ◌<◌, ◌≤◌, ◌+◌, ◌-◌, ◌/◌, ◌%◌, ◌^◌, ◌==◌, ◌||◌, ltb, Bool, true, false, cond, List, [], ◌∷◌, Option, Some, None, IsTrue, arith, refl, ap, sym, ◌∙◌, subst, length, get_or, ◌⊎◌, ⊎_elim}
-use Rattle.std.specs.Prelude.{IsSome, is_some, MatchOption, nat_lt, nat_le, if◌then◌else◌}
+use Rattle.std.proofs.Common.{ℕ, suc, ◌≡◌, ◌≢◌, ◌<◌, ◌≤◌, ◌+◌, ◌-◌, ◌%◌, ◌==◌, ltb, Bool, true, false, cond, List, [], ◌∷◌, Option, Some, None, IsTrue, arith, refl, sym, ◌∙◌, subst, length, get_or, ◌⊎◌, ⊎_elim}
+use Rattle.std.specs.Prelude.{IsSome}
 use Rattle.std.proofs.lemmas.Bool.Decides.{nat_tests}
 use Rattle.osc_sv39.specs.Walk.{is_canonical, number_of}
 use Rattle.osc_sv39.specs.declared.entries.Mapping.{Mapping}

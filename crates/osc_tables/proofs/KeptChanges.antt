@@ -1,5 +1,5 @@
 -- Each change keeps what the lists of tables always are.
-use Rattle.std.proofs.Common.{ℕ, zero, suc, ◌≡◌, ◌≢◌, ◌<◌, ◌≤◌, ◌+◌, ◌*◌, ◌^◌, ◌==◌, ltb, Bool, true, false, cond, List, [], ◌∷◌, ◌++◌, Option, Some, None, arith, refl, ap, sym, ◌∙◌, subst, add-one, drop-cons, drop, get_or, length, length-append, set, slice_get, position, count_by}
+use Rattle.std.proofs.Common.{ℕ, zero, suc, ◌≡◌, ◌≢◌, ◌<◌, ◌≤◌, ◌+◌, ◌*◌, ◌^◌, ◌==◌, ltb, Bool, true, false, cond, List, [], ◌∷◌, ◌++◌, Option, Some, None, arith, refl, ap, sym, ◌∙◌, subst, add-one, drop-cons, drop, get_or, length, length-append, set, slice_get}
 use Rattle.std.specs.Prelude.{map, slice_index}
 use Rattle.std.proofs.lemmas.Bool.Decides.{nat_tests}
 use Rattle.std.proofs.lemmas.List.{length-set}
@@ -12,8 +12,8 @@ use Rattle.osc_paging.specs.declared.TableFrame.{TableFrame}
 use Rattle.osc_paging.specs.declared.Mapped.{Mapped}
 use Rattle.osc_paging.specs.KeptTables.{KeptTables, mapping_at, mapping_of, frame_of, piece_of, is_piece}
 use Rattle.osc_paging.specs.TableChanges.{with_table, without_table, with_page, without_page, frames_given, is_before, table_frame, renamed_page, renamed_table}
-use Rattle.osc_paging.proofs.WordLists.{slice_get-set, written}
-use Rattle.osc_paging.proofs.TableLists.{piece_of-with_table, piece_of-without_none, piece_of-push, or_else}
+use Rattle.osc_paging.proofs.WordLists.{slice_get-set}
+use Rattle.osc_paging.proofs.TableLists.{piece_of-with_table, piece_of-without_none, piece_of-push}
 use Rattle.osc_paging.proofs.Kept.{length-frames_given}
 use Rattle.osc_tables.specs.Calls.{AllTaken, HasTaken, IsFresh}
 use Rattle.osc_tables.specs.Inside.{AscendWithin, LieWithin, Differ, IsKept, kept}

@@ -1,7 +1,6 @@
 -- One more table of a list that is scanned.
-use Rattle.std.proofs.Common.{ℕ, suc, ◌≡◌, ◌<◌, ◌≤◌, ◌+◌, ◌==◌, ◌&&◌, Bool, true, false, cond, List, [], ◌∷◌, Option, Some, None, drop, length, get_or, arith, refl, drop-cons, add-one, drop_of_length-le}
+use Rattle.std.proofs.Common.{ℕ, ◌≡◌, ◌<◌, ◌≤◌, ◌+◌, ◌==◌, cond, List, Some, None, drop, length, get_or, refl, drop-cons, add-one, drop_of_length-le}
 use Rattle.std.proofs.lemmas.Bool.Decides.{nat_tests}
-use Rattle.osc_paging.specs.declared.Piece.{Piece}
 use Rattle.osc_paging.specs.declared.TableFrame.{TableFrame}
 use Rattle.osc_paging.specs.KeptTables.{frame_of, piece_of, is_piece}
 

@@ -1,5 +1,5 @@
 -- What the calls of tables ask for and say. It is this project's own.
-use Rattle.std.specs.Prelude.{ℕ, ◌+◌, ◌-◌, ◌*◌, ◌≡◌, ◌≢◌, ◌<◌, ◌≤◌, Bool, List, [], Option, Some, None, IsSome, IsTrue, All, length, slice_index, ◌==◌, if◌then◌else◌}
+use Rattle.std.specs.Prelude.{ℕ, ◌+◌, ◌-◌, ◌*◌, ◌≡◌, ◌≢◌, ◌<◌, ◌≤◌, Bool, List, Option, Some, None, IsSome, IsTrue, All, length, slice_index, ◌==◌, if◌then◌else◌}
 use Rattle.osc_frames.specs.Free.{IsTaken}
 use Rattle.osc_word.specs.declared.job_list.Job.{Job}
 use Rattle.osc_sv39.specs.declared.entries.Mapping.{Mapping}
@@ -7,7 +7,7 @@ use Rattle.osc_sv39.specs.Walk.{is_canonical, number_of}
 use Rattle.osc_paging.specs.declared.Piece.{Piece}
 use Rattle.osc_paging.specs.declared.TableFrame.{TableFrame}
 use Rattle.osc_paging.specs.declared.Mapped.{Mapped}
-use Rattle.osc_paging.specs.KeptTables.{KeptTables, closed, root_of, mapping_of, mapping_at, piece_of, frame_of}
+use Rattle.osc_paging.specs.KeptTables.{KeptTables, closed, root_of, mapping_of, piece_of, frame_of}
 use Rattle.osc_paging.specs.TableChanges.{Changed}
 
 abbrev pub changed : KeptTables → List Bool → List Job → Changed

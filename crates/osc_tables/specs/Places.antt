@@ -1,5 +1,5 @@
 -- Where a page stands, or would stand, in the order of the numbers.
-use Rattle.std.specs.Prelude.{ℕ, zero, suc, ◌≡◌, ◌<◌, ◌-◌, ◌%◌, ◌^◌, nat_lt, nat_le, Option, Some, None, length, slice_index_or, List, [], ◌∷◌, if◌then◌else◌}
+use Rattle.std.specs.Prelude.{ℕ, suc, ◌≡◌, ◌<◌, ◌-◌, ◌%◌, ◌^◌, nat_lt, nat_le, Option, Some, None, length, slice_index_or, List, [], ◌∷◌, if◌then◌else◌}
 use Rattle.osc_paging.specs.declared.Mapped.{Mapped}
 
 -- how many pages have a lower number, in an ascending list

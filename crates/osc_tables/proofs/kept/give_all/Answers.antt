@@ -1,5 +1,5 @@
 -- One table more has given its frame back.
-use Rattle.std.proofs.Common.{◌∙◌, ◌<◌, length, arith}
+use Rattle.std.proofs.Common.{◌∙◌}
 use Rattle.osc_tables.proofs.KeptChanges.{gives_one, no_table}
 use Rattle.osc_tables.proofs.kept.give_all.Goals as goal
 

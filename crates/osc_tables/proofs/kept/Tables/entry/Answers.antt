@@ -1,5 +1,5 @@
 -- The number of a table is small.
-use Rattle.std.proofs.Common.{sym, ◌∙◌, arith, ◌<◌, ◌≡◌, Some}
+use Rattle.std.proofs.Common.{sym, arith, ◌≡◌, Some}
 use Rattle.osc_paging.specs.KeptTables.{piece_of}
 use Rattle.osc_tables.proofs.KeptFacts.{lies_small}
 use Rattle.osc_tables.proofs.kept.Tables.entry.Goals as goal

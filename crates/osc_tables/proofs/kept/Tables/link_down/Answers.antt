@@ -1,8 +1,7 @@
 -- One level more is linked.
-use Rattle.std.proofs.Common.{◌≡◌, ◌≤◌, ◌<◌, ◌-◌, ◌*◌, ◌^◌, suc, sym, ◌∙◌, ap, arith}
-use Rattle.osc_sv39.specs.Walk.{piece}
+use Rattle.std.proofs.Common.{◌≡◌, ◌-◌, suc, sym, ◌∙◌, ap, arith}
 use Rattle.osc_paging.specs.KeptTables.{KeptTables}
-use Rattle.osc_paging.specs.TableChanges.{Changed, link, link_all}
+use Rattle.osc_paging.specs.TableChanges.{link, link_all}
 use Rattle.osc_tables.specs.Calls.{changed}
 use Rattle.osc_tables.proofs.Pieces.{piece-start}
 use Rattle.osc_tables.proofs.Linked.{link_all-step, link_all-none}

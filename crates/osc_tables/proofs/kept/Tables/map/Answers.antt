@@ -1,5 +1,5 @@
 -- By the law of mappings.
-use Rattle.std.proofs.Common.{◌≡◌, ◌∙◌, ◌%◌, ◌+◌, ap, Some, arith, ℕ}
+use Rattle.std.proofs.Common.{◌≡◌, ◌∙◌, ◌%◌, ◌+◌, ap, Some, arith}
 use Rattle.std.specs.Int.RustNames.{bit_and}
 use Rattle.std.proofs.lemmas.Nat.{and_mask}
 use Rattle.osc_frames.specs.Free.{free_count}

@@ -1,11 +1,7 @@
 -- A page more, in its place.
-use Rattle.std.proofs.Common.{◌≡◌, ◌<◌, ◌∙◌, ap, sym, None, length, arith, ℕ, List, ◌%◌}
-use Rattle.std.specs.Int.RustNames.{bit_and}
-use Rattle.std.proofs.lemmas.Nat.{and_mask}
-use Rattle.osc_paging.specs.declared.Mapped.{Mapped}
+use Rattle.std.proofs.Common.{◌≡◌, ◌∙◌, ap, None, length, arith}
 use Rattle.osc_paging.specs.KeptTables.{KeptTables, mapping_at}
-use Rattle.osc_tables.specs.Inside.{kept}
-use Rattle.osc_tables.proofs.KeptChanges.{kept-with_page, unmapped_at, same_taken}
+use Rattle.osc_tables.proofs.KeptChanges.{kept-with_page}
 use Rattle.osc_tables.proofs.kept.Tables.map_number.Goals as goal
 
 pub put_page-requires-clause-room : goal.put_page-requires-clause-room

@@ -1,8 +1,7 @@
 -- The page at the place is the next one.
-use Rattle.std.proofs.Common.{sym, ◌∙◌, arith, ◌<◌, ◌≤◌, ◌≡◌, Some, length}
-use Rattle.osc_tables.specs.Places.{place_for, least_from}
+use Rattle.std.proofs.Common.{sym, ◌∙◌, arith, ◌<◌, ◌≤◌, length}
+use Rattle.osc_tables.specs.Places.{place_for}
 use Rattle.osc_tables.specs.Inside.{kept}
-use Rattle.osc_tables.specs.Calls.{NoneFrom, IsNextPage}
 use Rattle.osc_tables.proofs.Canonical.{next_page_found, next_page_small, no_next_page}
 use Rattle.osc_tables.proofs.kept.Tables.next_page.Goals as goal
 
