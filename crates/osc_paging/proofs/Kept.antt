@@ -13,7 +13,7 @@ use Rattle.osc_paging.specs.declared.Piece.{Piece}
 use Rattle.osc_paging.specs.declared.TableFrame.{TableFrame}
 use Rattle.osc_paging.specs.JobWords.{words_after}
 use Rattle.osc_paging.specs.KeptTables.{KeptTables, mapping_at, frame_of, piece_of, child, page_entry}
-use Rattle.osc_paging.specs.TableChanges.{Changed, with_page, without_page, without_table, linked, link, link_all, leaf_put, leaf_taken, unlinked, give_leaves, frames_given, table_frame}
+use Rattle.osc_paging.specs.TableChanges.{Changed, with_page, without_page, without_table, linked, link, link_all, leaf_put, leaf_cleared, unlinked, give_leaves, frames_given, table_frame}
 use Rattle.osc_paging.specs.Agree.{Apart, Agrees, AgreesAfter, ReadsAsLeaf}
 use Rattle.osc_paging.proofs.WordLists.{slice_get-set, length-zeroed, put_word_at, zeroed_word_at, words_after-append}
 use Rattle.osc_paging.proofs.TableLists.{mapping_at-with_page, mapping_at-without_page, frame_of-with_table, piece_of-with_table, apart-with_table, frame_of-without_table, apart-found, apart-placed, piece_of-without_same, piece_of-without_none, apart-without_table, piece_of-left, piece_of-push}
@@ -169,6 +169,41 @@ put-agrees entries top c words number m table reads there g = record {
         grind (arith, nat_tests, was, there, place)
 
 -- a leaf is taken away
+abbrev pub leaf_taken : ℕ → Option ℕ → Changed → Changed
+leaf_taken number table c = leaf_cleared number table (record c { tables = record (c.tables) { pages = without_page number c.tables.pages } })
+
+-- where there is no leaf table, the page is not mapped
+pub gone-agrees : (entries : ℕ → ℕ → ℕ) (top : ℕ) (c : Changed) (words : List ℕ) (number : ℕ) → frame_of c.tables.tables 0 (number / 512) ≡ None → AgreesAfter entries top words c → AgreesAfter entries top words (leaf_taken number None c)
+gone-agrees entries top c words number none g = record {
+  size = g.size;
+  small = g.small;
+  apart = g.apart;
+  taken = g.taken;
+  parents = parents;
+  leaves = λ q x e. g.leaves q x (let h = rw mapping_at-without_page at e in grind (arith, nat_tests, h));
+  agree = λ f i p s e. agree f i p.level p.number s e;
+  spare = g.spare;
+  zeros = g.zeros;
+}
+  where
+    parents : (l n : ℕ) → l ≤ top → child (leaf_taken number None c).tables l n ≢ Absent → frame_of c.tables.tables l (n / 512) ≢ None
+    parents zero n s h = grind (arith, nat_tests, g.parents zero n s, mapping_at-without_page c.tables.pages number n)
+    parents (suc l) n s h = g.parents (suc l) n s h
+
+    agree : (f i l n : ℕ) → i < 512 → piece_of c.tables.tables f ≡ Some (record { level = l; number = n }) → word_at (words_after entries c.jobs words) f i ≡ word_of (child (leaf_taken number None c).tables l (n * 512 + i))
+    agree f i zero n s e =
+        let was : word_at (words_after entries c.jobs words) f i ≡ word_of (child c.tables 0 (n * 512 + i)) = g.agree f i _ s e in
+        let back : frame_of c.tables.tables 0 n ≡ Some f = apart-placed _ f 0 n g.apart e in
+        let other : (number == n * 512 + i) ≡ false = different (number == n * 512 + i) refl back in
+        rw (mapping_at-without_page c.tables.pages number (n * 512 + i), other) was
+      where
+        different : (b : Bool) → (number == n * 512 + i) ≡ b → frame_of c.tables.tables 0 n ≡ Some f → b ≡ false
+        different false h back = refl
+        different true h back =
+            let same : number / 512 ≡ n = grind (arith, nat_tests, h) in
+            absurd (let d = subst (λ k. frame_of c.tables.tables 0 k ≡ None) same none in cc)
+    agree f i (suc l) n s e = g.agree f i _ s e
+
 pub take-agrees : (entries : ℕ → ℕ → ℕ) (top : ℕ) (c : Changed) (words : List ℕ) (number : ℕ) (table : ℕ) → frame_of c.tables.tables 0 (number / 512) ≡ Some table → AgreesAfter entries top words c → AgreesAfter entries top words (leaf_taken number (Some table) c)
 take-agrees entries top c words number table there g = record {
   size = grind (arith, g.size, words_after-append, length-set {A = ℕ});

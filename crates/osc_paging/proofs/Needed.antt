@@ -100,16 +100,6 @@ unfolding link_all
 link_all-pages zero number c = refl
 link_all-pages (suc l) number c = link_all-pages l number (link l (piece (suc l) number) c) ∙ link-pages c l (piece (suc l) number) _ _ _
 
--- a mapping takes what it needs, and the page is mapped as asked
-pub maps : (top number root : ℕ) (m : Mapping) (c : Changed) → frame_of c.tables.tables top (piece (suc top) number) ≡ Some root → need c.tables.tables top number 1 ≤ free_frames c.free → MapsPage top number m c (map_page top number m c)
-maps top number root m c e s =
-    let k = link_all-takes top number c root e s in
-    let t = some_of _ k.1 in
-    record {
-      taken = rw t.1 k.0.count;
-      pages = λ q. rw t.1 (mapping_at-with_page _ number q m ∙ ap (λ ms. cond (number == q) (Some m) (mapping_at ms q)) (link_all-pages top number c));
-    }
-
 -- ---- many pages
 piece_step : (l n : ℕ) → (piece l (n + 1) ≡ piece l n) ⊎ (piece l (n + 1) ≡ piece l n + 1)
 piece_step zero n = inr refl
@@ -196,6 +186,17 @@ link_all-grown (suc l) number c root e s =
 pub put-tables : (number : ℕ) (m : Mapping) (x : Option ℕ) (c : Changed) → ((leaf_put number m x c).tables.tables ≡ c.tables.tables) × ((leaf_put number m x c).free ≡ c.free)
 put-tables number m None c = (refl, refl)
 put-tables number m (Some t) c = (refl, refl)
+
+-- a mapping takes what it needs, and the page is mapped as asked
+pub maps : (top number root : ℕ) (m : Mapping) (c : Changed) → frame_of c.tables.tables top (piece (suc top) number) ≡ Some root → need c.tables.tables top number 1 ≤ free_frames c.free → MapsPage top number m c (map_page top number m c)
+maps top number root m c e s =
+    let k = link_all-takes top number c root e s in
+    let t = some_of _ k.1 in
+    record {
+      root = ap (λ ts. frame_of ts top 0) (put-tables number m (frame_of (link_all top number c).tables.tables 0 (number / 512)) (link_all top number c)).0 ∙ link_all-above top number c top 0 (omega arith);
+      taken = rw t.1 k.0.count;
+      pages = λ q. rw t.1 (mapping_at-with_page _ number q m ∙ ap (λ ms. cond (number == q) (Some m) (mapping_at ms q)) (link_all-pages top number c));
+    }
 
 piece_top : (l p q : ℕ) → p ≤ q → piece l q ≡ 0 → piece l p ≡ 0
 piece_top l p q s e = let h = piece_mono l p q s in omega arith

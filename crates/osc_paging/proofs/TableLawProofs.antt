@@ -10,12 +10,12 @@ use Rattle.osc_sv39.specs.Walk.{piece, word_at, put_word, is_canonical, frame_al
 use Rattle.osc_paging.specs.declared.Piece.{Piece}
 use Rattle.osc_paging.specs.declared.TableFrame.{TableFrame}
 use Rattle.osc_paging.specs.JobWords.{zeroed}
-use Rattle.osc_paging.specs.KeptTables.{KeptTables, mapping_at, frame_of, piece_of, child, closed, need, missing}
-use Rattle.osc_paging.specs.TableChanges.{Changed, opened, unlinked, leaf_put, leaf_taken, link_all}
+use Rattle.osc_paging.specs.KeptTables.{KeptTables, page_entry, link_entry, mapping_at, frame_of, piece_of, child, closed, need, missing}
+use Rattle.osc_paging.specs.TableChanges.{Changed, opened, unlinked, leaf_put, link_all}
 use Rattle.osc_paging.specs.Agree.{Agrees, AgreesAfter}
-use Rattle.osc_paging.specs.TableLaws.{WalkGivesMapping, OpeningAgrees, MappingKeeps, UnmappingKeeps, ReclaimingKeeps, GivingKeeps, MappingTakesNeed, MappingsTakeNeed, StoresElsewhereKeep}
+use Rattle.osc_paging.specs.TableLaws.{WalkGivesMapping, OpeningAgrees, MappingKeeps, UnmappingKeeps, ReclaimingKeeps, GivingKeeps, MappingTakesNeed, MappingsTakeNeed, StoresElsewhereKeep, TablesStandAbove}
 use Rattle.osc_paging.proofs.WordLists.{get_or-set, zeroed_at, length-zeroed}
-use Rattle.osc_paging.proofs.Kept.{put-agrees, take-agrees, unlinked-agrees, give-agrees, link_all-agrees}
+use Rattle.osc_paging.proofs.Kept.{put-agrees, gone-agrees, leaf_taken, take-agrees, unlinked-agrees, give-agrees, link_all-agrees}
 use Rattle.osc_paging.proofs.Walked.{walks}
 use Rattle.osc_paging.proofs.Needed.{maps, maps_all}
 
@@ -95,7 +95,7 @@ pub unmapping_keeps : UnmappingKeeps
 unmapping_keeps entries top words c number g = go _ refl
   where
     go : (x : Option ℕ) → frame_of c.tables.tables 0 (number / 512) ≡ x → AgreesAfter entries top words (leaf_taken number x c)
-    go None e = g
+    go None e = gone-agrees entries top c words number e g
     go (Some t) e = take-agrees entries top c words number t e g
 
 pub reclaiming_keeps : ReclaimingKeeps
@@ -112,7 +112,7 @@ giving_keeps entries top words c g = give-agrees entries top c words g
 pub mapping_takes_need : MappingTakesNeed
 mapping_takes_need top number root m c e s n = maps top number root m c (rw (piece-top (suc top) number s) e) n
 
-none_needed : (ts : List TableFrame) (l number : ℕ) → need ts l number 0 ≡ 0
+pub none_needed : (ts : List TableFrame) (l number : ℕ) → need ts l number 0 ≡ 0
 unfolding need missing
 none_needed ts zero number = refl
 none_needed ts (suc l) number = let h = none_needed ts l number in omega arith
@@ -140,3 +140,17 @@ stores_elsewhere_keep top t free words g k none out = record {
   stored = λ i v s. same-agrees top t free words (put_word words g i v) g k (length-set words _ v) none out (λ f j q d. grind (arith, nat_tests, get_or-set words (g * 512 + i) (f * 512 + j) v));
   zeroed = λ i count s. same-agrees top t free words (zeroed (g * 512 + i) count words) g k (length-zeroed count _ words) none out (λ f j q d. grind (arith, nat_tests, zeroed_at count (g * 512 + i) words (f * 512 + j)));
 }
+
+pub tables_stand_above : TablesStandAbove
+tables_stand_above top t free words g = record {
+  pages = λ n h. g.parents 0 n (omega arith) (mapped _ h);
+  tables = λ l n s h. g.parents (suc l) n s (linked _ h);
+}
+  where
+    mapped : (x : Option Mapping) → x ≢ None → page_entry x ≢ Absent
+    mapped None h = absurd (h refl)
+    mapped (Some m) h = λ d. cc
+
+    linked : (x : Option ℕ) → x ≢ None → link_entry x ≢ Absent
+    linked None h = absurd (h refl)
+    linked (Some f) h = λ d. cc

@@ -97,16 +97,16 @@ map_pages top number [] c = c
 map_pages top number (mapping ∷ mappings) c = map_pages top (number + 1) mappings (map_page top number mapping c)
 
 -- ---- unmap
-abbrev pub leaf_taken : ℕ → Option ℕ → Changed → Changed
-leaf_taken number None c = c
-leaf_taken number (Some table) c = record c {
-  tables = record (c.tables) { pages = without_page number c.tables.pages };
-  jobs = c.jobs ++ put_job table (number % 512) 0 ∷ [];
-}
+-- the entry of the page of this number is cleared, where its leaf table is there
+abbrev pub leaf_cleared : ℕ → Option ℕ → Changed → Changed
+leaf_cleared number None c = c
+leaf_cleared number (Some table) c = record c { jobs = c.jobs ++ put_job table (number % 512) 0 ∷ [] }
 
 -- the page of this number is mapped no more
 abbrev pub unmap_page : ℕ → Changed → Changed
-unmap_page number c = leaf_taken number (frame_of c.tables.tables 0 (number / 512)) c
+unmap_page number c =
+    leaf_cleared number (frame_of c.tables.tables 0 (number / 512))
+    (record c { tables = record (c.tables) { pages = without_page number c.tables.pages } })
 
 -- ---- leaf tables without an entry
 abbrev pub unlinked : ℕ → Option ℕ → Option ℕ → Changed → Changed

@@ -1,10 +1,10 @@
 -- The laws of tables. `top` is the level of the topmost table, one less than the number of levels.
-use Rattle.std.specs.Prelude.{ℕ, suc, ◌+◌, ◌*◌, ◌/◌, ◌^◌, ◌≡◌, ◌<◌, ◌≤◌, ◌==◌, Bool, false, List, Some, None, slice_get, length, count_by, if◌then◌else◌}
+use Rattle.std.specs.Prelude.{ℕ, suc, ◌+◌, ◌*◌, ◌/◌, ◌^◌, ◌≡◌, ◌≢◌, ◌<◌, ◌≤◌, ◌==◌, Bool, false, List, Some, None, slice_get, length, count_by, if◌then◌else◌}
 use Rattle.osc_sv39.specs.declared.entries.Access.{Access}
 use Rattle.osc_sv39.specs.declared.entries.Mapping.{Mapping}
 use Rattle.osc_sv39.specs.Walk.{walk, frame_allowed, put_word, word_at}
 use Rattle.osc_paging.specs.JobWords.{zeroed}
-use Rattle.osc_paging.specs.KeptTables.{KeptTables, root_of, mapping_at, mapping_of, piece_of, need, closed}
+use Rattle.osc_paging.specs.KeptTables.{KeptTables, root_of, mapping_at, mapping_of, piece_of, frame_of, need, closed}
 use Rattle.osc_paging.specs.TableChanges.{Changed, map_page, map_pages, unmap_page, reclaim, give_leaves, opened}
 use Rattle.osc_paging.specs.Agree.{Agrees, AgreesAfter, ReadsAsLeaf}
 
@@ -52,6 +52,7 @@ free_frames free = count_by (λ b. b) free
 
 -- a mapping takes as many frames as are needed, and no other page changes
 pub record MapsPage (top number : ℕ) (mapping : Mapping) (c d : Changed) : Type 0 where
+  pub root : root_of top d.tables ≡ root_of top c.tables
   pub taken : free_frames d.free + need c.tables.tables top number 1 ≡ free_frames c.free
   pub pages : (q : ℕ) → mapping_at d.tables.pages q ≡ (if number == q then Some mapping else mapping_at c.tables.pages q)
 
@@ -80,3 +81,12 @@ StoresElsewhereKeep =
     (top : ℕ) (t : KeptTables) (free : List Bool) (words : List ℕ) (frame : ℕ)
     → Agrees top t free words → piece_of t.tables frame ≡ None → piece_of t.aside frame ≡ None
     → KeepsElsewhere top t free words frame
+
+-- a mapped page has its leaf table, and each table below the topmost one is linked in another
+pub record StandAbove (top : ℕ) (t : KeptTables) : Type 0 where
+  pub pages : (n : ℕ) → mapping_at t.pages n ≢ None → frame_of t.tables 0 (n / 512) ≢ None
+  pub tables : (l n : ℕ) → l < top → frame_of t.tables l n ≢ None → frame_of t.tables (suc l) (n / 512) ≢ None
+
+abbrev pub TablesStandAbove : Type 0
+TablesStandAbove =
+    (top : ℕ) (t : KeptTables) (free : List Bool) (words : List ℕ) → Agrees top t free words → StandAbove top t

@@ -11,6 +11,7 @@ ghost use Rattle.osc_paging.specs.TableLaws.{
   MappingTakesNeed,
   MappingsTakeNeed,
   StoresElsewhereKeep,
+  TablesStandAbove,
 };
 ghost use Rattle.osc_paging.specs.CacheLaws.{LookFindsLatest};
 
@@ -28,6 +29,12 @@ pub fn changes_keep_agreement()
     ensures unmapping { UnmappingKeeps }
     ensures reclaiming { ReclaimingKeeps }
     ensures giving { GivingKeeps }
+{}
+
+/// Where words and tables agree, each mapped page has its leaf table, and each table below the
+/// topmost one is linked: so an unmapping clears one leaf, and a reclaim one link.
+pub fn tables_stand_above()
+    ensures { TablesStandAbove }
 {}
 
 /// A mapping takes exactly the frames that are needed, and so do ascending mappings together.

@@ -1,0 +1,14 @@
+-- A new table has a frame of its own.
+use Rattle.std.proofs.Common.{arith}
+use Rattle.osc_tables.proofs.KeptChanges.{kept-with_table}
+use Rattle.osc_tables.proofs.kept.Tables.add_table.Goals as goal
+
+pub invariant_of-self : goal.invariant_of-self
+invariant_of-self c =
+    let fresh = rw (← c.self.view_is) at c.requires.fresh in
+    rw c.put_table.ensures.items (
+      kept-with_table c.self.inside.pages.items c.self.inside.tables.items c.self.inside.aside.items c.self.inside.room c.self.inside.count c.args.new c.self.invariant.0 fresh c.requires.level c.requires.range,
+      c.self.invariant.1,
+      omega (arith, c.self.invariant.2, c.put_table.ensures.capacity),
+      c.self.invariant.3,
+    )

@@ -1,0 +1,31 @@
+-- A page more, in its place.
+use Rattle.std.proofs.Common.{◌≡◌, ◌∙◌, ap, None, length, arith}
+use Rattle.osc_paging.specs.KeptTables.{KeptTables, mapping_at}
+use Rattle.osc_tables.proofs.KeptChanges.{kept-with_page}
+use Rattle.osc_tables.proofs.kept.Tables.map_number.Goals as goal
+
+pub put_page-requires-clause-room : goal.put_page-requires-clause-room
+put_page-requires-clause-room c =
+    let same = c.self.view_is ∙ c.link_down.ensures.rest in
+    let pages : length c.self.inside.pages.items ≡ length c.args.self.now.pages = ap (λ (t : KeptTables). length t.pages) same in
+    let room : c.self.inside.room ≡ c.args.self.now.room = ap (λ (t : KeptTables). t.room) same in
+    omega (arith, c.self.inside.pages.ok.0, c.self.invariant.1, c.requires.left)
+
+pub invariant_of-self : goal.invariant_of-self
+invariant_of-self c =
+    let same = c.self.view_is ∙ c.link_down.ensures.rest in
+    let pages : c.self.inside.pages.items ≡ c.args.self.now.pages = ap (λ (t : KeptTables). t.pages) same in
+    let long : length c.self.inside.pages.items ≡ length c.args.self.now.pages = ap length pages in
+    let room : c.self.inside.room ≡ c.args.self.now.room = ap (λ (t : KeptTables). t.room) same in
+    let none : mapping_at c.self.inside.pages.items c.args.number ≡ None = rw pages c.requires.unmapped in
+    rw c.put_page.ensures.items (
+      kept-with_page c.self.inside.pages.items c.self.inside.tables.items c.self.inside.aside.items c.self.inside.room c.self.inside.count c.args.number c.args.mapping c.self.invariant.0 (omega (arith, c.requires.left)) c.requires.range none,
+      omega (arith, c.self.invariant.1, c.put_page.ensures.capacity),
+      c.self.invariant.2,
+      c.self.invariant.3,
+    )
+
+pub returns-in-Some-clause-taken : goal.returns-in-Some-clause-taken
+returns-in-Some-clause-taken c =
+    let taken = rw (← c.self.view_is) at c.link_down.ensures.taken in
+    record { count = taken.count; tables = taken.tables; aside = taken.aside }

@@ -1,0 +1,443 @@
+//! The tables of one process, and each change of them.
+#![tactic(auto, using(crate::proofs::KeptFacts::kept_facts))]
+
+ghost use Rattle.std.specs.Prelude.{◌≡◌, ◌≢◌, ◌+◌, ◌*◌, ◌%◌, ◌/◌, ◌^◌, ◌<◌, ◌≤◌, ◌++◌, ◌∷◌, [], ℕ, suc, List, Bool, length, if◌then◌else◌};
+ghost use Rattle.std.specs.Prelude.{IfOk, is_some, IsSome, IsTrue, MatchOption, Some, None, option_map};
+ghost use Rattle.osc_word.specs.JobList.{spare};
+ghost use Rattle.osc_frames.specs.Free.{free_count};
+ghost use Rattle.osc_sv39.specs.Entries.{word_of};
+ghost use Rattle.osc_sv39.specs.Walk.{is_canonical, number_of};
+ghost use Rattle.osc_paging.specs.Agree.{ReadsAsLeaf};
+ghost use Rattle.osc_paging.specs.KeptTables.{closed, kept_word, link_entry, mapping_of, need, page_entry};
+ghost use Rattle.osc_paging.specs.KeptTables.{frame_of, mapping_at, piece_of, place_of, root_of, table_at};
+ghost use Rattle.osc_word.specs.declared.job_list.Job.{Job};
+ghost use Rattle.osc_paging.specs.TableChanges.{frames_given, give_leaves, link, link_all, map_page, opened, put_job, reclaim, renamed};
+ghost use Rattle.osc_paging.specs.TableChanges.{table_frame, unmap_page, with_table, without_page, without_table, zero_job};
+ghost use Rattle.osc_tables.specs.Calls.{AllCanonical, AllTaken, CanRename, HasTaken, IsClosed, IsEmptyLeaf, IsFresh, MapsTo, IsNextPage, IsOpen, NoneFrom, changed, left};
+ghost use Rattle.osc_tables.specs.Inside.{Differ, LieWithin};
+
+use crate::needs::need_below;
+use crate::numbers::{least_from, number_in_range, page_of, piece_over};
+use crate::page_list::{copy_pages, drop_page, mapping_at, place_for, put_page};
+use crate::table_list::{copy_tables, drop_table, frame_of, piece_of, put_table};
+use osc_frames::Frames;
+use osc_paging::{Mapped, Piece, TableFrame, TablePlace};
+use osc_sv39::{Mapping, PteEntry, leaf, table};
+use osc_word::{Job, Jobs, WordAt};
+use std::alloc::{AllocError, Global};
+use std::marker::Model;
+
+/// The page tables of one process. They are closed, or open with a topmost table. A leaf table that
+/// was given up stands aside until its frame is given back.
+#[derive(Drop)]
+pub struct Tables {
+    pages: Vec<Mapped>,
+    tables: Vec<TableFrame>,
+    aside: Vec<TableFrame>,
+    room: u32,
+    count: u32,
+}
+
+impl Model for Tables {
+    ghost use Rattle.std.specs.Prelude.{◌≤◌};
+    ghost use Rattle.std.specs.Vec.{vec_capacity};
+    ghost use Rattle.osc_paging.specs.KeptTables.{KeptTables};
+    ghost use Rattle.osc_tables.specs.Inside.{IsKept, kept};
+
+    ghost Value = { KeptTables };
+
+    ghost view = { λ t. kept t.pages.items t.tables.items t.aside.items t.room t.count };
+
+    ghost invariant = { λ t. IsKept 3 t.pages.items t.tables.items t.aside.items t.room t.count
+        × (t.room ≤ vec_capacity t.pages) × (t.count ≤ vec_capacity t.tables) × (t.count ≤ vec_capacity t.aside) };
+}
+
+/// The word of what may be mapped.
+fn page_word(mapping: Option<Mapping>) -> u64
+    ensures { result ≡ word_of (page_entry mapping) }
+{
+    mapping.map_or(0, |m| leaf(m.frame, m.bits))
+}
+
+/// The word of what may be linked.
+fn link_word(frame: Option<u32>) -> u64
+    ensures { result ≡ word_of (link_entry frame) }
+{
+    frame.map_or(0, |f| table(f))
+}
+
+/// The job that puts a word at the place of a number in a table.
+fn put_word(table: u32, number: u64, value: u64) -> Job
+    ensures { result ≡ put_job table (number % 512) value }
+{
+    let index = (number % 512) as u16;
+    Job::PutWord {
+        at: WordAt {
+            frame: table,
+            index,
+        },
+        value,
+    }
+}
+
+/// The place of a table.
+fn place_of(piece: Piece) -> TablePlace
+    requires level { piece.level < 3 }
+    requires range { piece.number * 512 ^ suc piece.level < 512 ^ 3 }
+    ensures { result ≡ place_of 2 piece }
+{
+    let first = match piece.level {
+        0 => piece.number * 512,
+        1 => piece.number * (512 * 512),
+        _ => piece.number * (512 * 512 * 512),
+    };
+    TablePlace {
+        level: piece.level,
+        first: page_of(first),
+    }
+}
+
+/// The place of the table in a frame.
+fn place_in(tables: &[TableFrame], frame: u32) -> Option<TablePlace>
+    requires { LieWithin 3 tables.now }
+    ensures { result ≡ option_map (place_of 2) (piece_of tables.now frame) }
+{
+    let piece = piece_of(tables, frame)?;
+    Some(place_of(piece))
+}
+
+/// Gives the frames of tables back.
+fn give_all(tables: &[TableFrame], frames: &mut Frames)
+    requires differ { Differ tables.now }
+    requires taken { AllTaken tables.now frames.old }
+    ensures { frames.new ≡ frames_given tables.now frames.old }
+{
+    for t in tables {
+        frames.give(t.frame);
+    }
+}
+
+impl Tables {
+    /// Closed tables of a machine with so many frames, with room for so many mapped pages.
+    pub fn new(alloc: Global, frames: u32, pages: u32) -> Result<Tables, AllocError>
+        ensures { IfOk result (λ t. t ≡ closed frames pages) }
+    {
+        Ok(Tables {
+            pages: Vec::with_capacity(alloc, pages as usize)?,
+            tables: Vec::with_capacity(alloc, frames as usize)?,
+            aside: Vec::with_capacity(alloc, frames as usize)?,
+            room: pages,
+            count: frames,
+        })
+    }
+
+    /// The frame of the topmost table.
+    pub fn root(&self) -> u32
+        requires { IsOpen 2 self.now }
+        ensures { root_of 2 self.now ≡ Some result }
+    {
+        frame_of(&self.tables, 2, 0).unwrap()
+    }
+
+    /// The mapping of a page; None exactly where it is not mapped.
+    pub fn at(&self, page: u64) -> Option<Mapping>
+        ensures { result ≡ mapping_of 3 self.now page }
+    {
+        let number = number_in_range(page)?;
+        mapping_at(&self.pages, number)
+    }
+
+    /// How many more pages may be mapped.
+    pub fn left(&self) -> u32
+        ensures { result ≡ left self.now }
+    {
+        self.room - self.pages.len() as u32
+    }
+
+    /// The place of the table in a frame; None exactly where the frame is no table of this
+    /// process. A leaf aside is one.
+    pub fn table_at(&self, frame: u32) -> Option<TablePlace>
+        ensures { result ≡ table_at 2 self.now frame }
+    {
+        match place_in(&self.tables, frame) {
+            Some(place) => Some(place),
+            None => place_in(&self.aside, frame),
+        }
+    }
+
+    /// The word that the kept tables have in a table. A leaf aside has only words 0.
+    pub fn entry(&self, frame: u32, index: u16) -> u64
+        requires table { IsSome (table_at 2 self.now frame) }
+        requires index { index < 512 }
+        ensures { result ≡ kept_word self.now frame index }
+    {
+        match piece_of(&self.tables, frame) {
+            None => 0,
+            Some(piece) => {
+                let number = piece.number * 512 + u64::from(index);
+                if piece.level == 0 {
+                    page_word(mapping_at(&self.pages, number))
+                } else {
+                    link_word(frame_of(&self.tables, piece.level - 1, number))
+                }
+            }
+        }
+    }
+
+    /// The least mapped page at or above another; None exactly where there is none.
+    pub fn next_page(&self, from: u64) -> Option<u64>
+        ensures { MatchOption result (NoneFrom 3 self.now from) (IsNextPage 3 self.now from) }
+    {
+        let number = least_from(from)?;
+        let at = place_for(&self.pages, number);
+        if at < self.pages.len() {
+            let found = self.pages[at].number;
+            Some(page_of(found))
+        } else {
+            None
+        }
+    }
+
+    /// The table frames that mapping so many pages newly takes.
+    pub fn need(&self, first: u64, count: u64) -> u64
+        requires { AllCanonical 3 first count }
+        ensures { result ≡ need self.now.tables 2 (number_of 3 first) count }
+    {
+        if count == 0 {
+            return 0;
+        }
+        need_below(&self.tables, 2, first & 0x7ff_ffff, count)
+    }
+
+    /// Puts a table over a piece, and links it in its parent.
+    fn add_table(&mut self, new: TableFrame, parent: u32, jobs: &mut Jobs)
+        requires level { new.piece.level < 3 }
+        requires range { new.piece.number * 512 ^ suc new.piece.level < 512 ^ 3 }
+        requires fresh { IsFresh self.old new.frame }
+        requires spare { 2 ≤ spare jobs.old }
+        ensures tables { self.new ≡ record self.old { tables = with_table new self.old.tables } }
+        ensures pushed { jobs.new.pushed ≡ jobs.old.pushed
+            ++ zero_job new.frame ∷ put_job parent (new.piece.number % 512) (word_of (PteEntry.Table new.frame)) ∷ [] }
+        ensures room { jobs.new.room ≡ jobs.old.room }
+    {
+        put_table(&mut self.tables, new);
+        jobs.push(Job::ZeroWords {
+            at: WordAt {
+                frame: new.frame,
+                index: 0,
+            },
+            count: 512,
+        });
+        jobs.push(put_word(parent, new.piece.number, table(new.frame)));
+    }
+
+    /// Links the table of this level over a piece, where it is missing: in the least free frame.
+    fn link(&mut self, level: u8, number: u64, frames: &mut Frames, jobs: &mut Jobs)
+        requires level { level < 2 }
+        requires range { number * 512 ^ suc level < 512 ^ 3 }
+        requires taken { HasTaken self.old frames.old }
+        requires spare { 2 ≤ spare jobs.old }
+        ensures next { changed self.new frames.new jobs.new.pushed ≡ link level number (changed self.old frames.old jobs.old.pushed) }
+        ensures taken { HasTaken self.new frames.new }
+        ensures room { jobs.new.room ≡ jobs.old.room }
+        ensures few { spare jobs.old ≤ spare jobs.new + 2 }
+        ensures rest { self.new ≡ record self.old { tables = self.new.tables } }
+    {
+        if frame_of(&self.tables, level, number).is_some() {
+            return;
+        }
+        if let Some(parent) = frame_of(&self.tables, level + 1, number / 512) {
+            if let Some(frame) = frames.take() {
+                let piece = Piece { level, number };
+                self.add_table(TableFrame { piece, frame }, parent, jobs);
+            }
+        }
+    }
+
+    /// Links all tables over a page that are missing, from the top.
+    fn link_down(&mut self, number: u64, frames: &mut Frames, jobs: &mut Jobs)
+        requires range { number < 512 ^ 3 }
+        requires taken { HasTaken self.old frames.old }
+        requires spare { 4 ≤ spare jobs.old }
+        ensures next { changed self.new frames.new jobs.new.pushed ≡ link_all 2 number (changed self.old frames.old jobs.old.pushed) }
+        ensures taken { HasTaken self.new frames.new }
+        ensures room { jobs.new.room ≡ jobs.old.room }
+        ensures few { spare jobs.old ≤ spare jobs.new + 4 }
+        ensures rest { self.new ≡ record self.old { tables = self.new.tables } }
+    {
+        let mut level = 2;
+        while level > 0 {
+            let above = piece_over(level, number);
+            level -= 1;
+            self.link(level, above, frames, jobs);
+        }
+    }
+
+    /// Maps the page of a number.
+    fn map_number(&mut self, number: u64, mapping: Mapping, frames: &mut Frames, jobs: &mut Jobs)
+        requires range { number < 512 ^ 3 }
+        requires unmapped { mapping_at self.old.pages number ≡ None }
+        requires left { 0 < left self.old }
+        requires taken { HasTaken self.old frames.old }
+        requires spare { 5 ≤ spare jobs.old }
+        ensures next { changed self.new frames.new jobs.new.pushed
+            ≡ map_page 2 number mapping (changed self.old frames.old jobs.old.pushed) }
+        ensures taken { HasTaken self.new frames.new }
+        ensures room { jobs.new.room ≡ jobs.old.room }
+    {
+        self.link_down(number, frames, jobs);
+        if let Some(table) = frame_of(&self.tables, 0, number / 512) {
+            put_page(&mut self.pages, number, mapping);
+            jobs.push(put_word(table, number, leaf(mapping.frame, mapping.bits)));
+        }
+    }
+
+    /// Maps a page: the tables over it that are missing are linked, and its leaf is put.
+    pub fn map(&mut self, page: u64, mapping: Mapping, frames: &mut Frames, jobs: &mut Jobs)
+        requires opened { IsOpen 2 self.old }
+        requires canonical { IsTrue (is_canonical 3 page) }
+        requires leaf { ReadsAsLeaf mapping }
+        requires unmapped { mapping_of 3 self.old page ≡ None }
+        requires left { 0 < left self.old }
+        requires taken { HasTaken self.old frames.old }
+        requires need { need self.old.tables 2 (number_of 3 page) 1 ≤ free_count frames.old }
+        requires spare { 5 ≤ spare jobs.old }
+
+        // Tables, frames and jobs are those of the rule.
+        ensures next { changed self.new frames.new jobs.new.pushed
+            ≡ map_page 2 (number_of 3 page) mapping (changed self.old frames.old jobs.old.pushed) }
+        ensures taken { HasTaken self.new frames.new }
+        ensures room { jobs.new.room ≡ jobs.old.room }
+
+        // So the page is mapped, no other page changes, and the frames are those that were needed.
+        ensures mapped { MapsTo 3 page (Some mapping) self.old self.new }
+        ensures root { root_of 2 self.new ≡ root_of 2 self.old }
+        ensures frames { free_count frames.new + need self.old.tables 2 (number_of 3 page) 1 ≡ free_count frames.old }
+    {
+        self.map_number(page & 0x7ff_ffff, mapping, frames, jobs);
+    }
+
+    /// Unmaps the page of a number.
+    fn unmap_number(&mut self, number: u64, jobs: &mut Jobs)
+        requires spare { 1 ≤ spare jobs.old }
+        ensures next { (free : List Bool) → changed self.new free jobs.new.pushed
+            ≡ unmap_page number (changed self.old free jobs.old.pushed) }
+        ensures pages { self.new ≡ record self.old { pages = without_page number self.old.pages } }
+        ensures room { jobs.new.room ≡ jobs.old.room }
+    {
+        drop_page(&mut self.pages, number);
+        if let Some(table) = frame_of(&self.tables, 0, number / 512) {
+            jobs.push(put_word(table, number, 0));
+        }
+    }
+
+    /// Unmaps a page: its leaf is cleared, and its leaf table stays.
+    pub fn unmap(&mut self, page: u64, jobs: &mut Jobs)
+        requires mapped { IsSome (mapping_of 3 self.old page) }
+        requires spare { 1 ≤ spare jobs.old }
+
+        // Tables and jobs are those of the rule.
+        ensures next { (free : List Bool) → changed self.new free jobs.new.pushed
+            ≡ unmap_page (number_of 3 page) (changed self.old free jobs.old.pushed) }
+        ensures room { jobs.new.room ≡ jobs.old.room }
+
+        // So the page is mapped no more, and no other page changes.
+        ensures unmapped { MapsTo 3 page None self.old self.new }
+        ensures taken { (free : List Bool) → HasTaken self.old free → HasTaken self.new free }
+    {
+        self.unmap_number(page & 0x7ff_ffff, jobs);
+    }
+
+    /// Takes a leaf table out of the tables, and keeps its frame aside.
+    fn set_aside(&mut self, number: u64, frame: u32)
+        requires { frame_of self.old.tables 0 number ≡ Some frame }
+        ensures next { self.new ≡ record self.old {
+          tables = without_table 0 number self.old.tables;
+          aside = self.old.aside ++ table_frame 0 number frame ∷ [];
+        } }
+        ensures taken { (free : List Bool) → HasTaken self.old free → HasTaken self.new free }
+    {
+        drop_table(&mut self.tables, 0, number);
+        let piece = Piece { level: 0, number };
+        self.aside.push(TableFrame { piece, frame }).unwrap();
+    }
+
+    /// Unlinks a leaf table that has no entry. Its frame stands aside until `give_leaves`.
+    pub fn reclaim(&mut self, leaf: u64, jobs: &mut Jobs)
+        requires leaf { IsEmptyLeaf 3 self.old leaf }
+        requires spare { 1 ≤ spare jobs.old }
+        ensures next { (free : List Bool) → changed self.new free jobs.new.pushed
+            ≡ reclaim (number_of 2 leaf) (changed self.old free jobs.old.pushed) }
+        ensures room { jobs.new.room ≡ jobs.old.room }
+        ensures taken { (free : List Bool) → HasTaken self.old free → HasTaken self.new free }
+    {
+        let number = leaf & 0x3_ffff;
+        if let Some(frame) = frame_of(&self.tables, 0, number) {
+            if let Some(parent) = frame_of(&self.tables, 1, number / 512) {
+                self.set_aside(number, frame);
+                jobs.push(put_word(parent, number, 0));
+            }
+        }
+    }
+
+    /// Gives the frames of the leaves aside back.
+    pub fn give_leaves(&mut self, frames: &mut Frames)
+        requires taken { HasTaken self.old frames.old }
+        ensures next { (jobs : List Job) → changed self.new frames.new jobs ≡ give_leaves (changed self.old frames.old jobs) }
+        ensures taken { HasTaken self.new frames.new }
+    {
+        give_all(&self.aside, frames);
+        self.aside.clear();
+    }
+
+    /// Opens closed tables with a topmost table, whose frame the caller has taken and whose words
+    /// are 0.
+    pub fn open(&mut self, root: u32)
+        requires closed { IsClosed self.old }
+        requires taken { root < self.old.count }
+        ensures { self.new ≡ opened 2 root self.old }
+    {
+        let piece = Piece {
+            level: 2,
+            number: 0,
+        };
+        self.tables.push(TableFrame { piece, frame: root }).unwrap();
+    }
+
+    /// Closes open tables without a leaf aside, and gives their frames back.
+    pub fn close(&mut self, frames: &mut Frames)
+        requires opened { IsOpen 2 self.old }
+        requires aside { self.old.aside ≡ [] }
+        requires taken { HasTaken self.old frames.old }
+        ensures closed { self.new ≡ closed self.old.count self.old.room }
+        ensures given { frames.new ≡ frames_given self.old.tables frames.old }
+    {
+        give_all(&self.tables, frames);
+        self.pages.clear();
+        self.tables.clear();
+        self.aside.clear();
+    }
+
+    /// Copies open tables without a leaf aside to closed ones of the same machine, with each frame
+    /// under its new name.
+    pub fn copy_to(&self, child: &mut Tables, names: &[u32])
+        requires opened { IsOpen 2 self.now }
+        requires aside { self.now.aside ≡ [] }
+        requires closed { child.old ≡ closed self.now.count self.now.room }
+        requires names { CanRename self.now names.now }
+        ensures { child.new ≡ renamed names.now self.now }
+    {
+        copy_pages(&self.pages, &mut child.pages, names);
+        copy_tables(&self.tables, &mut child.tables, names);
+    }
+}
+
+#[cfg(test)]
+impl Tables {
+    /// Whether the leaf table of a number is linked.
+    pub fn is_linked(&self, number: u64) -> bool
+        ensures { result ≡ is_some (frame_of self.now.tables 0 number) }
+    {
+        frame_of(&self.tables, 0, number).is_some()
+    }
+}
