@@ -36,8 +36,7 @@ pub fn empty_is_heap()
 /// An empty heap agrees with any free frames of its machine.
 pub fn empty_agrees()
     ensures { (free : List Bool) → FramesAgree (empty_heap (length free)) free }
-{
-}
+{}
 
 /// To place a block keeps a heap, and free and held frames add up.
 pub fn placing_keeps()
