@@ -35,7 +35,7 @@ write_bytes:
         ecall
         ret
 START
-    riscv64-unknown-elf-gcc -march=rv64i -mabi=lp64 -O1 -static -nostdlib -Wl,--build-id=none \
+    riscv64-unknown-elf-gcc -march=rv64i -mabi=lp64 -O1 -ffreestanding -static -nostdlib -Wl,--no-relax \
         -I examples -o "$work/euler" "$work/start.s" examples/euler.c -lgcc
     echo "qemu -singlestep, euler: $(run_for qemu-riscv64 -singlestep "$work/euler") microseconds a run"
 else
