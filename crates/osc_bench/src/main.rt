@@ -3,9 +3,11 @@
 //! time the whole program.
 #![tactic(auto)]
 
+mod heap;
 mod words;
 
 use anyhow::{Context, Result};
+use std::alloc::{AllocError, Global};
 use std::env;
 
 /// What can be timed.
@@ -13,6 +15,7 @@ use std::env;
 enum Part {
     Decode,
     Encode,
+    Heap,
 }
 
 impl Part {
@@ -20,14 +23,16 @@ impl Part {
         match name {
             "decode" => Some(Part::Decode),
             "encode" => Some(Part::Encode),
+            "heap" => Some(Part::Heap),
             _ => None,
         }
     }
 
-    fn checksum(self, count: u64) -> u64 {
+    fn checksum(self, alloc: Global, count: u64) -> Result<u64, AllocError> {
         match self {
-            Part::Decode => words::decoded(count),
-            Part::Encode => words::encoded(count),
+            Part::Decode => Ok(words::decoded(count)),
+            Part::Encode => Ok(words::encoded(count)),
+            Part::Heap => heap::paired(alloc, count),
         }
     }
 }
@@ -36,9 +41,9 @@ fn main(rt: HostRuntime) -> Result<()> {
     let mut arguments = env::args(&rt)?.skip(1);
     let name = arguments.next().context("the words are PART and COUNT")?;
     let count = arguments.next().context("the words are PART and COUNT")?;
-    let part = Part::named(name.as_str()).context("PART is decode or encode")?;
+    let part = Part::named(name.as_str()).context("PART is decode, encode or heap")?;
     let count: u64 = count.parse().context("COUNT is a number")?;
-    let checksum = part.checksum(count);
+    let checksum = part.checksum(rt.alloc(), count)?;
     println!(rt; "{checksum}")?;
     Ok(())
 }

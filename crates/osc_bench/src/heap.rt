@@ -1,0 +1,72 @@
+//! Blocks of a heap over 4096 frames: every size class and blocks of two pages, in turn. Each block is
+//! released when 512 more were placed.
+
+ghost use Rattle.std.specs.Prelude.{IfOk};
+ghost use Rattle.osc_class.specs.Rooms.{IsRoom};
+ghost use Rattle.osc_slot.specs.Heap.{FramesAgree};
+
+use osc_class::{Room, room_of};
+use osc_frames::Frames;
+use osc_heap::CanonHeap;
+use std::alloc::{AllocError, Global};
+use std::collections::VecDeque;
+
+/// The frames of the machine.
+const FRAMES: u32 = 4096;
+
+/// How many blocks are held at a time.
+const HELD: u64 = 512;
+
+/// Requests of every size class, and of two pages.
+const REQUESTS: [u64; 14] = [
+    16, 32, 48, 80, 112, 176, 240, 368, 496, 752, 1008, 1520, 2032, 8176,
+];
+
+/// The sum of the starts of `count` blocks, each of which is placed and released.
+pub fn paired(alloc: Global, count: u64) -> Result<u64, AllocError> {
+    let (mut heap, mut frames) = machine(alloc)?;
+    let mut held = VecDeque::with_capacity(alloc, HELD as usize)?;
+    let mut sum: u64 = 0;
+    for number in 0..count {
+        if number >= HELD {
+            release(&mut heap, &mut frames, held.pop_front().unwrap_or(0));
+        }
+        let request = REQUESTS[(number % 14) as usize];
+        let user = place(&mut heap, &mut frames, room_of(request));
+        held.push_back(user)?;
+        sum = sum.wrapping_add(user);
+    }
+    Ok(sum)
+}
+
+/// An empty heap, and the frames of its machine.
+fn machine(alloc: Global) -> Result<(CanonHeap, Frames), AllocError>
+    ensures { IfOk result (λ made. FramesAgree made.0 made.1) }
+{
+    let heap = CanonHeap::new(alloc, FRAMES)?;
+    let frames = Frames::new(alloc, FRAMES)?;
+    osc_slot::laws::empty_agrees();
+    Ok((heap, frames))
+}
+
+/// The user address of the next block, or 0 where it does not fit the free frames.
+fn place(heap: &mut CanonHeap, frames: &mut Frames, room: Room) -> u64
+    requires is_room { IsRoom room }
+    requires agree { FramesAgree heap.old frames.old }
+    ensures { FramesAgree heap.new frames.new }
+{
+    if heap.need(room) > u64::from(frames.free_count()) {
+        return 0;
+    }
+    heap.place(room, frames).start.wrapping_add(16)
+}
+
+/// Releases the block with a user address, where one is held.
+fn release(heap: &mut CanonHeap, frames: &mut Frames, user: u64)
+    requires { FramesAgree heap.old frames.old }
+    ensures { FramesAgree heap.new frames.new }
+{
+    if let Some(block) = heap.block_at(user) {
+        heap.release(block, frames);
+    }
+}
