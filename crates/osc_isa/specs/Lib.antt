@@ -4,3 +4,4 @@ pub use Rattle.osc_word.specs.Registers
 pub mod Numbers
 pub mod Integer
 pub mod Traps
+pub mod Atomic
