@@ -1,5 +1,5 @@
 -- A flag is tested by a mask in the code, and by its place in the definitions.
-use Rattle.std.proofs.Common.{ℕ, ◌≡◌, ◌*◌, ◌^◌, ◌<◌, ◌==◌, zero, suc, arith, Bool}
+use Rattle.std.proofs.Common.{ℕ, ◌≡◌, ◌*◌, ◌^◌, ◌<◌, ◌==◌, zero, suc, arith}
 use Rattle.std.specs.Prelude.{not}
 use Rattle.std.specs.Int.{bit_at}
 use Rattle.std.specs.Int.RustNames.{bit_and}

@@ -1,17 +1,17 @@
 -- Mapped pages, and the tables that they lie in, are counted page by page.
-use Rattle.std.proofs.Common.{ℕ, zero, suc, ◌≡◌, ◌+◌, ◌-◌, ◌*◌, ◌/◌, ◌<◌, ◌≤◌, ◌==◌, arith, refl, sym, ◌∙◌, ap, subst, Bool, true, false, cond, ◌||◌, ◌&&◌, List, [], ◌∷◌, ◌++◌, length, map, append-nil, eqb, None, Some, Option}
+use Rattle.std.proofs.Common.{ℕ, zero, suc, ◌≡◌, ◌+◌, ◌-◌, ◌/◌, ◌<◌, ◌≤◌, ◌==◌, arith, refl, sym, ◌∙◌, ap, Bool, true, false, cond, ◌||◌, List, [], ◌∷◌, ◌++◌, length, map, append-nil, None}
 use Rattle.std.proofs.Math.Nat.{div-mul-le_self}
 use Rattle.std.proofs.lemmas.Nat.{le-div}
-use Rattle.std.specs.Prelude.{if◌then◌else◌, is_some, nat_lt}
-use Rattle.std.specs.List.{list_any, filter, range_with_len, find}
+use Rattle.std.specs.Prelude.{if◌then◌else◌, is_some}
+use Rattle.std.specs.List.{list_any, filter, range_with_len}
 use Rattle.std.proofs.lemmas.Bool.Decides.{nat_tests}
 use Rattle.std.proofs.lemmas.Grind.{common_steps}
 use Rattle.std.proofs.lemmas.List.Elements.{filter-append}
 use Rattle.std.proofs.lemmas.List.Folds.{list_any-append}
 use Rattle.osc_sv39.specs.declared.entries.Access.{Access}
 use Rattle.osc_sv39.specs.declared.entries.Access.TheVariants.{Fetch, Load, Store}
-use Rattle.osc_image.specs.Image.{Image, is_mapped, page_permits, bits_at, bits_of, page_limit, pages_below, pages, NoneFrom}
-use Rattle.osc_image.specs.Frames.{different, stack_pages, tables_of, needed_frames}
+use Rattle.osc_image.specs.Image.{Image, is_mapped, page_permits, bits_at, page_limit, pages_below, pages, NoneFrom}
+use Rattle.osc_image.specs.Frames.{different, tables_of, needed_frames}
 use Rattle.osc_elf.proofs.Ranges.{range-more, filter-none, range-split}
 
 pub page_limit-is : page_limit ≡ 1048576

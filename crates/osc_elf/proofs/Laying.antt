@@ -1,5 +1,5 @@
 -- The byte that was laid last, by the segments that a reader keeps.
-use Rattle.std.proofs.Common.{ℕ, ◌≡◌, refl, sym, ap, ◌∙◌, Bool, true, false, cond, List, [], ◌∷◌, map, reverse, Option, Some, None}
+use Rattle.std.proofs.Common.{ℕ, ◌≡◌, refl, ap, ◌∙◌, Bool, true, false, cond, List, [], ◌∷◌, reverse, Some}
 use Rattle.std.specs.Prelude.{option_map}
 use Rattle.std.specs.List.{find}
 use Rattle.std.specs.Option.{option_map_or}
@@ -25,26 +25,10 @@ turned file [] done = refl
 turned file (s ∷ ss) done = turned file ss (s ∷ done)
 
 -- the last segment that covers the address gives the byte
-last-covering : (file : List ℕ) (ss : List Segment) (address : ℕ)
+pub last-covering : (file : List ℕ) (ss : List Segment) (address : ℕ)
     → laid_byte (all_shown file ss) address
     ≡ option_map_or (byte_in address) (option_map (shown file) (find (λ s. covers address (shown [] s)) (reverse ss))) 0
 unfolding laid_byte
 last-covering file ss address =
     ap (λ s. option_map_or (byte_in address) s 0)
     (ap (find (covers address)) (turned file ss []) ∙ find-shown file address (reverse ss))
-
-pub laid_byte-some : (file file' : List ℕ) (ss ss' : List Segment) (address : ℕ) (s : Segment) → file' ≡ file → ss' ≡ ss
-    → Some s ≡ find (λ s. covers address (shown [] s)) (reverse ss')
-    → byte_in address (shown file' s) ≡ laid_byte (all_shown file ss) address
-laid_byte-some file file' ss ss' address s same_file same found =
-    ap (λ f. byte_in address (shown f s)) same_file
-    ∙ (ap (λ o. option_map_or (byte_in address) (option_map (shown file) o) 0) found
-    ∙ (ap (λ xs. option_map_or (byte_in address) (option_map (shown file) (find (λ s. covers address (shown [] s)) (reverse xs))) 0) same
-    ∙ sym (last-covering file ss address)))
-
-pub laid_byte-none : (file : List ℕ) (ss ss' : List Segment) (address : ℕ) → ss' ≡ ss
-    → None ≡ find (λ s. covers address (shown [] s)) (reverse ss') → 0 ≡ laid_byte (all_shown file ss) address
-laid_byte-none file ss ss' address same found =
-    ap (λ o. option_map_or (byte_in address) (option_map (shown file) o) 0) found
-    ∙ (ap (λ xs. option_map_or (byte_in address) (option_map (shown file) (find (λ s. covers address (shown [] s)) (reverse xs))) 0) same
-    ∙ sym (last-covering file ss address))

@@ -5,3 +5,5 @@ pub mod Walking
 pub mod Laying
 pub mod Counting
 pub mod Searching
+pub mod Owning
+pub mod Painting

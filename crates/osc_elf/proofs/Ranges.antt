@@ -1,5 +1,5 @@
 -- Searches in the numbers below a limit.
-use Rattle.std.proofs.Common.{ℕ, zero, suc, ◌≡◌, ◌+◌, ◌<◌, ◌≤◌, arith, refl, sym, ◌∙◌, ap, Bool, true, false, cond, List, [], ◌∷◌, ◌++◌, Option, Some, None, inl, inr, add-one, add-zero, zero-add}
+use Rattle.std.proofs.Common.{ℕ, zero, suc, ◌≡◌, ◌+◌, ◌<◌, ◌≤◌, arith, refl, ◌∙◌, ap, Bool, true, false, [], ◌∷◌, ◌++◌, Option, Some, None, inl, inr, add-one, add-zero, zero-add}
 use Rattle.std.proofs.Math.Nat.{suc-add}
 use Rattle.std.specs.List.{range_with_len, find, filter, filter_map}
 use Rattle.std.proofs.Math.Nat.{eq-or-lt_of_le}

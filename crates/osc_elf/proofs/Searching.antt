@@ -1,8 +1,8 @@
 -- The least page that can be written and executed.
-use Rattle.std.proofs.Common.{ℕ, ◌≡◌, ◌<◌, ◌≤◌, arith, sym, ap, ◌∙◌, true, false, ◌&&◌, List, Some, None, inl, inr, refl}
+use Rattle.std.proofs.Common.{ℕ, ◌≡◌, ◌<◌, ◌≤◌, arith, true, false, List, Some, None, inl, inr, refl}
 use Rattle.std.proofs.lemmas.Bool.{cases_lt}
 use Rattle.osc_sv39.specs.declared.entries.Access.{Access}
-use Rattle.osc_sv39.specs.declared.entries.Access.TheVariants.{Fetch, Load, Store}
+use Rattle.osc_sv39.specs.declared.entries.Access.TheVariants.{Fetch, Store}
 use Rattle.osc_image.specs.Image.{Segment, page_permits, page_limit}
 use Rattle.osc_image.specs.Form.{is_write_exec, write_exec_below}
 use Rattle.osc_elf.proofs.Ranges.{find-some, find-none}

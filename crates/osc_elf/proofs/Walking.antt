@@ -1,10 +1,9 @@
 -- The program headers are read one after the other.
-use Rattle.std.proofs.Common.{ℕ, zero, suc, ◌≡◌, ◌+◌, ◌<◌, ◌≤◌, arith, refl, sym, ◌∙◌, ap, List, [], ◌∷◌, ◌++◌, append-nil, map, Option, Some, None}
+use Rattle.std.proofs.Common.{ℕ, ◌≡◌, ◌+◌, ◌<◌, arith, refl, sym, ◌∙◌, ap, List, [], ◌∷◌, ◌++◌, append-nil, Some, None}
 use Rattle.std.specs.Prelude.{option_map}
 use Rattle.std.specs.List.{range_with_len, filter_map}
 use Rattle.std.proofs.lemmas.List.Elements.{filter_map-append}
 use Rattle.std.proofs.lemmas.Grind.{common_steps}
-use Rattle.osc_image.specs.declared.ImageFault.{ImageFault}
 use Rattle.osc_image.specs.declared.ImageFault.TheVariants as fault
 use Rattle.osc_image.specs.declared.SegmentWhy.{SegmentWhy}
 use Rattle.osc_image.specs.Image as image

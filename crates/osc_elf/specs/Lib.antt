@@ -5,4 +5,6 @@ pub use Rattle.osc_image.specs.Reading
 pub mod Segments
 pub mod Reach
 pub mod Refused
+pub mod Pieces
+pub mod Painting
 pub mod Tables

@@ -1,5 +1,5 @@
 -- The segments that a reader keeps: what each means, and the pages that it touches. This project's own.
-use Rattle.std.specs.Prelude.{ℕ, ◌+◌, ◌*◌, ◌/◌, max, Bool, ◌||◌, List, [], ◌∷◌, take, drop, map}
+use Rattle.std.specs.Prelude.{ℕ, ◌+◌, ◌/◌, max, Bool, ◌||◌, List, [], ◌∷◌, take, drop, map}
 use Rattle.osc_image.specs.Image as image
 use Rattle.osc_elf.specs.declared.segment.Segment.{Segment}
 use Rattle.osc_sv39.specs.declared.entries.Access.{Access}

@@ -1,14 +1,15 @@
 //! A loaded image.
 
-ghost use Rattle.std.specs.Prelude.{◌≡◌, ℕ, ◌<◌, ◌≤◌, [], find, reverse, false, IfOk, IfSome, MatchOption};
+ghost use Rattle.std.specs.Prelude.{◌≡◌, ℕ, ◌+◌, ◌*◌, ◌^◌, ◌<◌, ◌≤◌, false, length, slice_index, unwrap_or, IfOk, IfSome, MatchOption};
+ghost use Rattle.std.specs.Bool.{OnTrue};
 ghost use Rattle.osc_sv39.specs.declared.entries.Access.{Access};
 ghost use Rattle.osc_image.specs.Image as image;
 ghost use Rattle.osc_image.specs.Frames as frames;
 ghost use Rattle.osc_image.specs.Form as form;
-ghost use Rattle.osc_elf.specs.Segments.{shown, all_shown};
-ghost use Rattle.std.specs.Option.{option_copied};
+ghost use Rattle.osc_elf.specs.Segments.{all_shown};
 
 use crate::permitted::{last_end, permitted};
+use crate::pieces::{advance, borders, owned_byte, owners, piece_at};
 use crate::segment::{PAGE, Segment};
 use bitflags::Flags;
 use osc_image::ImageFault;
@@ -34,6 +35,10 @@ pub struct Image {
     entry: u64,
     file: Vec<u8>,
     segments: Vec<Segment>,
+    /// The addresses where segments begin and end, and 0, ascending; and for each the index of the last
+    /// segment that has it.
+    borders: Vec<u64>,
+    owners: Vec<Option<usize>>,
     /// For each page up to the last one whether it can be read, written and executed.
     read: Vec<bool>,
     write: Vec<bool>,
@@ -47,10 +52,12 @@ impl Model for Image {
 
     ghost use Rattle.osc_elf.specs.Segments.{all_shown};
     ghost use Rattle.osc_elf.specs.Tables.{AreTables};
+    ghost use Rattle.osc_elf.specs.Pieces.{ArePieces};
 
     ghost view = { λ i. record { entry = i.entry; segments = all_shown i.file.items i.segments.items } };
 
-    ghost invariant = { λ i. AreTables i.segments.items i.read.items i.write.items i.execute.items };
+    ghost invariant = { λ i. AreTables i.segments.items i.read.items i.write.items i.execute.items
+        × ArePieces i.segments.items i.borders.items i.owners.items };
 }
 
 /// The flags of a page's leaf.
@@ -73,17 +80,6 @@ fn flags(read: bool, write: bool, execute: bool) -> Option<PteBits>
     Some(bits)
 }
 
-/// The last segment that has an address.
-fn last_covering(segments: &[Segment], address: u64) -> Option<&Segment>
-    ensures last { option_copied result ≡ find (λ s. image.covers address (shown [] s)) (reverse segments.now) }
-    ensures low { IfSome result (λ s. s.now.address ≤ address) }
-{
-    segments
-        .iter()
-        .rev()
-        .find(|segment| segment.covers(address))
-}
-
 impl Image {
     /// The image of the segments, whose bytes stand in the file.
     pub fn new(
@@ -94,6 +90,8 @@ impl Image {
     ) -> Result<Image, AllocError>
         ensures { IfOk result (λ made. made ≡ record { entry = entry; segments = all_shown file.items segments.items }) }
     {
+        let borders = borders(alloc, &segments)?;
+        let owners = owners(alloc, &segments, &borders)?;
         let limit = last_end(&segments);
         let read = permitted(alloc, &segments, Access::Load, limit)?;
         let write = permitted(alloc, &segments, Access::Store, limit)?;
@@ -102,6 +100,8 @@ impl Image {
             entry,
             file,
             segments,
+            borders,
+            owners,
             read,
             write,
             execute,
@@ -146,14 +146,16 @@ impl Image {
     }
 
     fn is_mapped(&self, page: u64) -> bool
-        ensures { result ≡ image.is_mapped self.now page }
+        ensures value { result ≡ image.is_mapped self.now page }
+        ensures bound { OnTrue result (page < 1048576) }
     {
-        self.page_bits(page).is_some()
+        page < self.limit() && self.page_bits(page).is_some()
     }
 
     /// The least mapped page at or above one; None exactly where there is none.
     pub fn next_page(&self, from: u64) -> Option<u64>
-        ensures { MatchOption result (image.NoneFrom self.now from) (λ page. image.IsNextPage self.now from page) }
+        ensures bound { IfSome result (λ page. page < 1048576) }
+        ensures next { MatchOption result (image.NoneFrom self.now from) (λ page. image.IsNextPage self.now from page) }
     {
         for page in from..self.limit() {
             if self.is_mapped(page) {
@@ -163,14 +165,12 @@ impl Image {
         None
     }
 
-    /// The byte that was laid last at an address of a mapped page, 0 where none was.
+    /// The byte that was laid last at an address, 0 where none was.
     fn laid_byte(&self, address: u64) -> u8
         ensures { result ≡ image.laid_byte self.now.segments address }
     {
-        match last_covering(&self.segments, address) {
-            Some(segment) => segment.byte(&self.file, address),
-            None => 0,
-        }
+        let piece = piece_at(&self.borders, address);
+        owned_byte(&self.file, &self.segments, self.owners[piece], address)
     }
 
     /// The byte at an address; None exactly where its page is not mapped.
@@ -181,6 +181,34 @@ impl Image {
             return None;
         }
         Some(self.laid_byte(address))
+    }
+
+    /// Puts the bytes that were laid last from an address on, 0 where none was.
+    fn lay(&self, start: u64, into: &mut [u8])
+        requires { start + length into.old < 2 ^ 64 }
+        ensures len { length into.new ≡ length into.old }
+        ensures each { (i : ℕ) → i < length into.old → slice_index into.new i ≡ image.laid_byte self.now.segments (start + i) }
+    {
+        let mut piece = piece_at(&self.borders, start);
+        for place in 0..into.len() {
+            let address = start + place as u64;
+            piece = advance(&self.borders, piece, address);
+            into[place] = owned_byte(&self.file, &self.segments, self.owners[piece], address);
+        }
+    }
+
+    /// Puts the 4096 bytes of a page, an address divided by 4096; all are 0 where it is not mapped. The
+    /// segments that do not touch the page cost nothing.
+    pub fn page_bytes(&self, page: u64, into: &mut [u8])
+        requires { length into.old ≡ 4096 }
+        ensures len { length into.new ≡ 4096 }
+        ensures each { (i : ℕ) → i < 4096 → slice_index into.new i ≡ unwrap_or (image.byte_at self.now (4096 * page + i)) 0 }
+    {
+        if self.is_mapped(page) {
+            self.lay(page * PAGE, into);
+        } else {
+            into.fill(0);
+        }
     }
 
     /// How many pages are mapped.

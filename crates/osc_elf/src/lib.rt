@@ -5,6 +5,7 @@ mod fields;
 mod header;
 mod image;
 mod permitted;
+mod pieces;
 mod program_headers;
 mod reader;
 mod segment;

@@ -27,7 +27,7 @@ pub struct Segment {
 }
 
 impl Segment {
-    ghost use Rattle.std.specs.Prelude.{◌≡◌, ◌<◌, ◌≤◌, [], true};
+    ghost use Rattle.std.specs.Prelude.{◌≡◌, ◌+◌, ◌<◌, ◌≤◌};
     ghost use Rattle.osc_image.specs.Image as image;
     ghost use Rattle.osc_elf.specs.Segments.{shown, grants, first_page, end_page};
 
@@ -44,7 +44,14 @@ impl Segment {
         ensures value { result ≡ end_page self.now }
         ensures bound { result ≤ 1048576 }
     {
-        (self.address + self.size).div_ceil(PAGE) as u32
+        self.end().div_ceil(PAGE) as u32
+    }
+
+    /// The address after its last.
+    pub fn end(&self) -> u64
+        ensures { result ≡ self.now.address + self.now.size }
+    {
+        self.address + self.size
     }
 
     /// Whether it lets its pages be accessed so. What can be written can be read too.
@@ -56,13 +63,6 @@ impl Segment {
             Access::Load => self.readable || self.writable,
             Access::Store => self.writable,
         }
-    }
-
-    /// Whether an address is one of its own.
-    pub fn covers(&self, address: u64) -> bool
-        ensures { result ≡ image.covers address (shown [] self.now) }
-    {
-        self.address <= address && address < self.address + self.size
     }
 
     /// The byte at an address of its own.

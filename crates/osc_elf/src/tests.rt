@@ -133,7 +133,7 @@ fn files_cut_short(rt: HostRuntime) -> Result<(), Fail> {
 }
 
 /// Patches of the image of 8198 bytes, and what is said of it then.
-static PATCHED: [(&[Patch], &str); 47] = [
+static PATCHED: [(&[Patch], &str); 48] = [
     (&[], "taken"),
     (&[Patch(3, b"f")], "magic"),
     (&[Patch(4, &[1])], "class"),
@@ -188,6 +188,8 @@ static PATCHED: [(&[Patch], &str); 47] = [
     (&[Patch(136, &[0xff, 0xff, 0])], "segment 1 range"),
     (&[Patch(136, &[0xfa, 0xff, 0xff, 0xff])], "taken"),
     (&[Patch(136, &[0xfb, 0xff, 0xff, 0xff])], "segment 1 range"),
+    // 4 GiB in memory.
+    (&[Patch(160, &[0, 0, 0, 0, 1])], "segment 1 range"),
     // A segment of no bytes may have any address.
     (
         &[Patch(136, &[0xff; 8]), Patch(152, &[0]), Patch(160, &[0])],
@@ -284,6 +286,19 @@ fn image_of_gnu_ld(rt: HostRuntime) -> Result<(), Fail> {
     Ok(())
 }
 
+/// The bytes of a page, by one call for each and by one call for all.
+fn pages_agree(alloc: Global, image: &Image, page: u64) -> Result<bool, AllocError> {
+    let mut page_bytes = vec![in alloc; 0xee; 4096]?;
+    image.page_bytes(page, &mut page_bytes);
+    for (place, byte) in page_bytes.iter().enumerate() {
+        let address = page.saturating_mul(4096).saturating_add(place as u64);
+        if *byte != image.byte(address).unwrap_or(0) {
+            return Ok(false);
+        }
+    }
+    Ok(true)
+}
+
 #[test]
 fn segments_that_overlap(rt: HostRuntime) -> Result<(), Fail> {
     let file = image_with(
@@ -316,6 +331,23 @@ fn segments_that_overlap(rt: HostRuntime) -> Result<(), Fail> {
         bytes(rt.alloc(), &image, 0x40000, 3)?.as_slice(),
         b"AB\0".as_slice()
     );
+    for page in [
+        0,
+        0xf,
+        0x10,
+        0x20,
+        0x21,
+        0x30,
+        0x40,
+        0x41,
+        0x10_0000,
+        u64::MAX,
+    ] {
+        assert!(rt; pages_agree(rt.alloc(), &image, page)?, "page {page:#x}");
+    }
+    let mut page = vec![in rt.alloc(); 0; 4096]?;
+    image.page_bytes(0x21, &mut page);
+    assert!(rt; page.starts_with(b"EFIJ\0\0\0"));
     assert_eq!(rt; image.next_page(0x22), Some(0x40));
     assert_eq!(rt; image.page_count(), 4);
     Ok(())
@@ -337,6 +369,26 @@ fn needed_frames(rt: HostRuntime) -> Result<(), Fail> {
     Ok(())
 }
 
+/// 65534 segments of three bytes that lie side by side, so that more than 1300 touch each page.
+#[test]
+fn segments_side_by_side(rt: HostRuntime) -> Result<(), Fail> {
+    let mut file = header(rt.alloc(), 65535)?;
+    push_load(&mut file, &pt_load(5, 0, 0x10000, 4, 4))?;
+    for index in 0..65534 {
+        push_load(&mut file, &pt_load(6, index % 3, 0x20000 + index * 3, 2, 3))?;
+    }
+    let image = read_image(rt.alloc(), &file)?;
+    assert_eq!(rt; image.page_count(), 49);
+    let found = bytes(rt.alloc(), &image, 0x20000, 12)?;
+    assert_eq!(rt; found.as_slice(), b"\x7fE\0EL\0LF\0\x7fE\0".as_slice());
+    let found = bytes(rt.alloc(), &image, 0x20000 + 65533 * 3, 4)?;
+    assert_eq!(rt; found.as_slice(), b"EL\0\0".as_slice());
+    for page in [0x20, 0x21, 0x38, 0x4f, 0x50] {
+        assert!(rt; pages_agree(rt.alloc(), &image, page)?, "page {page:#x}");
+    }
+    Ok(())
+}
+
 #[test]
 fn longest_files(rt: HostRuntime) -> Result<(), Fail> {
     let mut file = header(rt.alloc(), 65535)?;
@@ -351,6 +403,9 @@ fn longest_files(rt: HostRuntime) -> Result<(), Fail> {
         bytes(rt.alloc(), &image, 0x20001, 3)?.as_slice(),
         b"ELF".as_slice()
     );
+    for page in [0x10, 0x1f, 0x20, 0x800, 0xf1f, 0xf20] {
+        assert!(rt; pages_agree(rt.alloc(), &image, page)?, "page {page:#x}");
+    }
     file.push(b'x')?;
     assert_eq!(rt; says(rt.alloc(), &file)?.as_str(), "too long");
     Ok(())

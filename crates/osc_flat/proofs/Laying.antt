@@ -1,23 +1,22 @@
 -- Pages and their bytes are laid one after another, each in its place of a list.
-use Rattle.std.proofs.Common.{◌≡◌, ℕ, suc, ◌+◌, ◌-◌, ◌<◌, List, [], ◌∷◌, ◌++◌, unwrap_or, replicate, sym, ◌∙◌, append_assoc, append-nil, arith}
+use Rattle.std.proofs.Common.{◌≡◌, ℕ, zero, suc, ◌+◌, ◌-◌, ◌<◌, List, [], ◌∷◌, ◌++◌, unwrap_or, replicate, length, get_or, refl, sym, ap, ◌∙◌, append_assoc, append-nil, arith}
 use Rattle.osc_image.specs.Image.{Image, byte_at}
 use Rattle.osc_flat.specs.Memory.{Page, image_bytes, page_list, image_pages, read_write, zero_pages}
 
--- one more byte of an image
-pub image_bytes-next : (image : Image) (start i count : ℕ) (front all : List ℕ) → i < count
-    → front ++ image_bytes image (start + i) (count - i) ≡ all
-    → (front ++ unwrap_or (byte_at image (start + i)) 0 ∷ []) ++ image_bytes image (start + (i + 1)) (count - (i + 1)) ≡ all
+-- the bytes of an image, one by one
+pub image_bytes-each : (image : Image) (start count : ℕ) (bytes : List ℕ) → length bytes ≡ count
+    → ((i : ℕ) → i < count → get_or bytes i 0 ≡ unwrap_or (byte_at image (start + i)) 0) → bytes ≡ image_bytes image start count
 unfolding image_bytes
-image_bytes-next image start i count front all below laid =
-    let more : count - i ≡ suc (count - (i + 1)) = omega arith in
-    let further : start + (i + 1) ≡ start + i + 1 = omega arith in
-    rw further (append_assoc front _ _ ∙ (rw more at laid))
-
--- all bytes of an image's page
-pub image_bytes-ends : (image : Image) (at left : ℕ) (front all : List ℕ) → left ≡ 0
-    → front ++ image_bytes image at left ≡ all → front ≡ all
-unfolding image_bytes
-image_bytes-ends image at left front all none laid = sym (append-nil front) ∙ (rw none at laid)
+image_bytes-each image start zero [] len each = refl
+image_bytes-each image start zero (byte ∷ bytes) len each = absurd (omega (arith, len))
+image_bytes-each image start (suc count) [] len each = absurd (omega (arith, len))
+image_bytes-each image start (suc count) (byte ∷ bytes) len each =
+    let here : byte ≡ unwrap_or (byte_at image start) 0 =
+    each 0 (omega arith) ∙ ap (λ a. unwrap_or (byte_at image a) 0) (omega arith) in
+    rw (← here)
+    (ap (λ xs. byte ∷ xs)
+    (image_bytes-each image (start + 1) count bytes (omega (arith, len))
+    (λ i low. each (suc i) (omega arith) ∙ ap (λ a. unwrap_or (byte_at image a) 0) (omega arith))))
 
 -- the page of one more number of an image, if there is one
 pub image_pages-next : (image : Image) (number last : ℕ) (front all : List Page) → number < last

@@ -24,11 +24,8 @@ fn page_bytes(alloc: Global, image: &Image, number: u64) -> Result<Vec<u8>, Allo
     ensures whole { IfOk result (λ bytes. vec_len bytes ≡ 4096) }
     ensures bytes { IfOk result (λ bytes. bytes.items ≡ memory.image_bytes image.now (4096 * number) 4096) }
 {
-    let mut bytes = Vec::with_capacity(alloc, PAGE)?;
-    let start = number * PAGE as u64;
-    for i in 0..PAGE as u64 {
-        bytes.push_reserved(image.byte(start + i).unwrap_or(0));
-    }
+    let mut bytes = zeros(alloc)?;
+    image.page_bytes(number, &mut bytes);
     Ok(bytes)
 }
 

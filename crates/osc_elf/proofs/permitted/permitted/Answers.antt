@@ -1,8 +1,8 @@
-use Rattle.std.proofs.Common.{arith, ℕ, length, max, get_or, false, ◌≡◌, ◌+◌, ◌∙◌, sym, ap, inl, inr}
+use Rattle.std.proofs.Common.{arith, length, false, ◌≡◌, ◌+◌, ◌∙◌, sym, ap, inl, inr}
 use Rattle.std.proofs.lemmas.Grind.{common_steps, elements}
 use Rattle.std.proofs.lemmas.Bool.{cases_lt}
 use Rattle.std.proofs.lemmas.List.{get_or_past}
-use Rattle.osc_elf.specs.Reach.{reach_at, reach_below}
+use Rattle.osc_elf.specs.Reach.{reach_below}
 use Rattle.osc_elf.proofs.Reaching.{reach-more, swept, permits-beyond}
 use Rattle.osc_elf.proofs.permitted.permitted.Goals as goal
 

@@ -1,6 +1,5 @@
-use Rattle.std.proofs.Common.{arith, max, take, List, ◌≡◌, ◌++◌, [], ◌∷◌, ◌+◌, ◌∙◌, sym, ap}
+use Rattle.std.proofs.Common.{arith, max, take, ◌≡◌, ◌++◌, [], ◌∷◌, ◌+◌, ◌∙◌, sym, ap}
 use Rattle.std.proofs.lemmas.Grind.{take_at_read}
-use Rattle.osc_elf.specs.declared.segment.Segment.{Segment}
 use Rattle.osc_elf.specs.Reach.{reach_of, reach_at}
 use Rattle.osc_elf.proofs.Reaching.{reach_at-more}
 use Rattle.osc_elf.proofs.permitted.reaches.Goals as goal

@@ -6,4 +6,4 @@ pub returns-clause-beyond : goal.returns-clause-beyond
 returns-clause-beyond c = λ access page above.
     rw (← c.self.view_is)
     (permits-beyond c.self.inside.file.items c.self.inside.segments.items access page
-    (omega (arith, c.self.invariant.end, c.len.ensures)))
+    (omega (arith, c.self.invariant.0.end, c.len.ensures)))

@@ -1,4 +1,4 @@
-use Rattle.std.proofs.Common.{sym, ◌∙◌, arith}
+use Rattle.std.proofs.Common.{arith}
 use Rattle.osc_elf.proofs.Counting.{needed-is}
 use Rattle.osc_elf.proofs.image.Image.needed_frames.Goals as goal
 

@@ -1,7 +1,5 @@
-use Rattle.std.proofs.Common.{◌≡◌, ℕ, ◌+◌, ◌/◌, ◌<◌, ◌≤◌, None, false, length, map}
-use Rattle.osc_image.specs.Image.{bits_at, pages_below}
-use Rattle.osc_image.specs.Form.{is_write_exec}
-use Rattle.osc_elf.proofs.Counting.{Counted}
+use Rattle.std.proofs.Common.{◌≡◌, ◌≤◌, length}
+use Rattle.osc_image.specs.Image.{pages_below}
 use Rattle.osc_elf.proofs.image.Image.page_count.Given as goal
 
 abbrev pub invariant-loop-page : goal.invariant-loop-page

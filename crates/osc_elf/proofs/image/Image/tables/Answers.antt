@@ -14,7 +14,7 @@ loop-page-preserved c =
       | then-is_mapped+then-next-page w ↦
           rw (w.count-is, w.next-is) (
             tables-new c.args.self.now c.args.size c.loop-page.page c.loop-page.count c.loop-page.next
-                (sym c.is_mapped.ensures ∙ w.if-is_mapped.true) w.if-next-page.true c.loop-page.invariant.0,
+                (sym c.is_mapped.ensures.value ∙ w.if-is_mapped.true) w.if-next-page.true c.loop-page.invariant.0,
             omega
                 (arith, c.loop-page.invariant.1),
             omega arith,
@@ -24,10 +24,10 @@ loop-page-preserved c =
             elim w.else-is_mapped.branch [
               | else-is_mapped-via-then-is_mapped+else-next-page v ↦
                   tables-same c.args.self.now c.args.size c.loop-page.page c.loop-page.count c.loop-page.next
-                  (sym c.is_mapped.ensures ∙ v.if-is_mapped.true) v.if-next-page.false c.loop-page.invariant.2 c.loop-page.invariant.0
+                  (sym c.is_mapped.ensures.value ∙ v.if-is_mapped.true) v.if-next-page.false c.loop-page.invariant.2 c.loop-page.invariant.0
               | else-is_mapped-via-else-is_mapped v ↦
                   tables-unmapped c.args.self.now c.args.size c.loop-page.page c.loop-page.count c.loop-page.next
-                  (sym c.is_mapped.ensures ∙ v.if-is_mapped.false) c.loop-page.invariant.0
+                  (sym c.is_mapped.ensures.value ∙ v.if-is_mapped.false) c.loop-page.invariant.0
             ],
             omega (arith, c.loop-page.invariant.1),
             omega (arith, c.loop-page.invariant.2),

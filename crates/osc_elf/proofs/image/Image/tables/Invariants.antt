@@ -1,5 +1,5 @@
-use Rattle.std.proofs.Common.{◌≡◌, ℕ, ◌+◌, ◌/◌, ◌<◌, ◌≤◌, None, false, length, map}
-use Rattle.osc_image.specs.Image.{bits_at, pages_below}
+use Rattle.std.proofs.Common.{◌+◌, ◌/◌, ◌≤◌}
+use Rattle.osc_image.specs.Image.{pages_below}
 use Rattle.osc_image.specs.Frames.{tables_of}
 use Rattle.osc_elf.proofs.Counting.{Counted}
 use Rattle.osc_elf.proofs.image.Image.tables.Given as goal
