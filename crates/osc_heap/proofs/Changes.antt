@@ -1,9 +1,9 @@
 -- What a change of one truth value makes of the held blocks.
-use Rattle.std.proofs.Common.{ℕ, zero, suc, ◌≡◌, ◌<◌, ◌≤◌, ◌==◌, nat_lt, nat_le, ◌&&◌, ◌||◌, ◌+◌, ◌-◌, ◌*◌, ◌/◌, Bool, true, false, not, cond, List, [], ◌∷◌, length, filter, slice_index_or, slice_set, arith, refl, sym, ap, ◌∙◌}
+use Rattle.std.proofs.Common.{ℕ, zero, suc, ◌≡◌, ◌<◌, ◌≤◌, nat_lt, ◌+◌, ◌*◌, Bool, true, false, List, [], ◌∷◌, length, slice_index_or, slice_set, arith, refl, ap, ◌∙◌}
 use Rattle.std.proofs.lemmas.Bool.Decides.{nat_tests}
 use Rattle.std.proofs.lemmas.Grind.{common_steps}
 use Rattle.std.proofs.Math.Nat.{suc-mul}
-use Rattle.osc_class.specs.Rooms.{IsRoom, shadow_pages}
+use Rattle.osc_class.specs.Rooms.{IsRoom}
 use Rattle.osc_class.specs.declared.Room.{Room}
 use Rattle.osc_slot.specs.declared.Block.{Block}
 use Rattle.osc_slot.specs.Areas.{first_page, area_of, start_of, slots_in, block_at_slot}

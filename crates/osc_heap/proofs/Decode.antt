@@ -1,5 +1,5 @@
 -- The slot that a block's start tells.
-use Rattle.std.proofs.Common.{ℕ, zero, suc, ◌≡◌, ◌<◌, ◌≤◌, ◌+◌, ◌-◌, ◌*◌, ◌/◌, ◌%◌, arith, refl, sym, ap, ◌∙◌}
+use Rattle.std.proofs.Common.{ℕ, ◌≡◌, ◌<◌, ◌≤◌, ◌+◌, ◌-◌, ◌*◌, ◌/◌, ◌%◌, arith, ap, ◌∙◌}
 use Rattle.std.proofs.Math.Nat.{mul-div_left, div-add-mod', div-eq_of_lt-le}
 use Rattle.std.proofs.lemmas.Nat.{mod-mul-add}
 use Rattle.osc_class.specs.Rooms.{size_of, IsRoom}

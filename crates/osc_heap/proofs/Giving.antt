@@ -1,9 +1,9 @@
 -- One page that is given back.
-use Rattle.std.proofs.Common.{ℕ, zero, suc, ◌≡◌, ◌<◌, ◌≤◌, ◌+◌, ◌&&◌, nat_le, nat_lt, Bool, true, false, not, cond, List, [], ◌∷◌, ◌++◌, Option, Some, length, take, drop, get_or, filter, slice_get, slice_set, arith, refl, sym, ap, ◌∙◌, add-one, drop-cons, drop_of_length-le}
+use Rattle.std.proofs.Common.{ℕ, zero, suc, ◌≡◌, ◌<◌, ◌≤◌, ◌+◌, Bool, true, false, List, [], ◌∷◌, Some, length, take, drop, get_or, filter, slice_get, slice_set, arith, refl, sym, ap, ◌∙◌, add-one, drop-cons, drop_of_length-le}
 use Rattle.std.specs.List.{remove}
 use Rattle.std.proofs.lemmas.Bool.Decides.{nat_tests}
 use Rattle.osc_slot.specs.declared.HeapPage.{HeapPage}
-use Rattle.osc_slot.specs.Heap.{give_back, AreTaken, HaveFrames, has_frame}
+use Rattle.osc_slot.specs.Heap.{give_back, AreTaken, HaveFrames}
 use Rattle.osc_slot.proofs.Backing.{taken-give}
 use Rattle.osc_heap.specs.Layout.{in_range, out_of_range, CanGiveBack}
 

@@ -1,6 +1,5 @@
 -- What a change of the parts of a heap makes of the heap.
-use Rattle.std.proofs.Common.{ℕ, zero, suc, ◌≡◌, ◌<◌, ◌≤◌, ◌+◌, ◌-◌, ◌*◌, ◌/◌, ◌^◌, ◌&&◌, ◌||◌, nat_le, nat_lt, Bool, true, false, not, cond, List, [], ◌∷◌, ◌++◌, Option, Some, None, IsSome, is_some, length, filter, unwrap_or, slice_index_or, slice_set, arith, refl, sym, ap, ◌∙◌, subst}
-use Rattle.std.specs.List.{list_any, list_all}
+use Rattle.std.proofs.Common.{ℕ, ◌≡◌, ◌<◌, ◌≤◌, ◌+◌, ◌*◌, ◌/◌, ◌^◌, ◌&&◌, nat_le, nat_lt, Bool, true, false, not, cond, List, Option, Some, None, IsSome, is_some, length, filter, arith, refl, sym, ap, ◌∙◌, subst}
 use Rattle.std.proofs.lemmas.Bool.Decides.{nat_tests}
 use Rattle.std.proofs.lemmas.Nat.{mul-le}
 use Rattle.std.proofs.lemmas.Grind.{common_steps}
@@ -10,9 +9,9 @@ use Rattle.osc_class.specs.declared.Room.TheVariants.{Small, Pages}
 use Rattle.osc_slot.specs.declared.Block.{Block}
 use Rattle.osc_slot.specs.declared.HeapPage.{HeapPage}
 use Rattle.osc_slot.specs.Least.{least, any}
-use Rattle.osc_slot.specs.Areas.{first_page, area_of, slots_of, slots_in, page_of, start_of, block_at_slot, IsPlaced}
-use Rattle.osc_slot.specs.Slots.{is_block, is_held, Holds, holds_in, has_block, beside, empty_page, first_slot, or_else, slot, need, need_over, pages_alone, least_start, start_of_slot, is_covered}
-use Rattle.osc_slot.specs.Heap.{Heap, HeapAndFree, Backing, back, give_back, with_block, without_block, next_block, place, release, copy, rename, empty_heap, IsHeap, FramesAgree, Keeps, AreNames, free_count}
+use Rattle.osc_slot.specs.Areas.{first_page, area_of, slots_of, slots_in, page_of, start_of, block_at_slot}
+use Rattle.osc_slot.specs.Slots.{is_block, is_held, Holds, holds_in, beside, empty_page, first_slot, or_else, slot, need, need_over, pages_alone, least_start, start_of_slot, is_covered}
+use Rattle.osc_slot.specs.Heap.{Heap, HeapAndFree, Backing, back, give_back, with_block, without_block, next_block, place, release, IsHeap, FramesAgree, Keeps, free_count}
 use Rattle.osc_slot.proofs.Bounds.{start_page, in_area, pages_within, pages_positive}
 use Rattle.osc_slot.proofs.Exists.{same_slot}
 use Rattle.osc_slot.proofs.HeldBlocks.{is_block_self}
@@ -20,7 +19,7 @@ use Rattle.osc_slot.proofs.Placing.{Next, next, place_is, place_keeps, frames_fi
 use Rattle.osc_slot.proofs.Fresh.{new_pages}
 use Rattle.osc_slot.proofs.Releasing.{Last, last, release_keeps, emptied, taken-filter}
 use Rattle.osc_slot.proofs.Backing.{frames-filter, has_page}
-use Rattle.osc_heap.specs.Layout.{room_at, bit_at, row_of, bits, with_bit, page_held, row_beside, row_empty_page, in_range, out_of_range, CanGiveBack, blocks_from, AreSized, all_free, heap_of, AreParts}
+use Rattle.osc_heap.specs.Layout.{bit_at, row_of, bits, with_bit, row_beside, row_empty_page, in_range, out_of_range, CanGiveBack, blocks_from, AreSized, heap_of, AreParts}
 use Rattle.osc_slot.proofs.InOrder.{any-insert, filter_same}
 use Rattle.osc_heap.proofs.Giving.{can_give}
 use Rattle.osc_heap.proofs.Rows.{held_is_bit}

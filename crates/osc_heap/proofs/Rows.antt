@@ -1,20 +1,18 @@
 -- What the truth values say of the held blocks.
-use Rattle.std.proofs.Common.{ℕ, zero, suc, ◌≡◌, ◌≢◌, ◌<◌, ◌≤◌, ◌==◌, nat_lt, nat_le, ◌&&◌, ◌||◌, ◌+◌, ◌-◌, ◌*◌, Bool, true, false, not, cond, List, [], ◌∷◌, length, filter, slice_index_or, slice_set, arith, refl, sym, ap, ◌∙◌}
-use Rattle.std.specs.List.{list_any}
+use Rattle.std.proofs.Common.{ℕ, suc, ◌≡◌, ◌<◌, ◌==◌, nat_lt, nat_le, ◌&&◌, ◌||◌, ◌+◌, ◌-◌, ◌*◌, Bool, true, false, cond, List, [], ◌∷◌, slice_index_or, arith, refl, sym, ap, ◌∙◌}
 use Rattle.std.proofs.lemmas.Bool.Decides.{nat_tests}
 use Rattle.std.proofs.Math.Nat.{suc-mul}
 use Rattle.osc_class.specs.Rooms.{IsRoom}
 use Rattle.osc_class.specs.declared.Room.{Room}
 use Rattle.osc_class.specs.declared.Room.TheVariants.{Small, Pages}
 use Rattle.osc_slot.specs.declared.Block.{Block}
-use Rattle.osc_slot.specs.Areas.{first_page, area_of, start_of, slots_in, block_at_slot}
+use Rattle.osc_slot.specs.Areas.{first_page, area_of, start_of, block_at_slot}
 use Rattle.osc_slot.specs.Slots.{is_room, is_block, is_held, holds_in}
-use Rattle.osc_slot.specs.Heap.{with_block, without_block}
-use Rattle.osc_slot.specs.Ordered.{insert_by, AllAbove}
+use Rattle.osc_slot.specs.Ordered.{AllAbove}
 use Rattle.osc_slot.proofs.Exists.{same_slot}
 use Rattle.osc_slot.proofs.HeldBlocks.{same_block, is_block_self}
-use Rattle.osc_slot.proofs.Bounds.{later_slot, bytes_positive}
-use Rattle.osc_heap.specs.Layout.{room_at, bit_at, row_of, bits, blocks_of_row, blocks_from, AreSized}
+use Rattle.osc_slot.proofs.Bounds.{later_slot}
+use Rattle.osc_heap.specs.Layout.{room_at, bit_at, bits, blocks_of_row, blocks_from}
 
 -- blocks at two slots of a room are one where the slots are
 pub same_at : (frames : ℕ) (room : Room) (i j : ℕ) → IsRoom room → is_block (block_at_slot frames room i) (block_at_slot frames room j) ≡ (i == j)

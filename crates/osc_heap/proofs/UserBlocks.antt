@@ -1,15 +1,14 @@
 -- The held block with a user address.
-use Rattle.std.proofs.Common.{ℕ, ◌≡◌, ◌≢◌, ◌<◌, ◌≤◌, ◌==◌, ◌&&◌, ◌||◌, ◌+◌, ◌-◌, Bool, true, false, cond, List, [], ◌∷◌, Option, Some, None, find, arith, refl, sym, ap, ◌∙◌, subst}
-use Rattle.std.specs.List.{list_any}
+use Rattle.std.proofs.Common.{ℕ, ◌≡◌, ◌≢◌, ◌<◌, ◌≤◌, ◌==◌, ◌||◌, ◌+◌, ◌-◌, Bool, true, false, cond, List, [], ◌∷◌, Some, None, arith, refl, sym, ap, ◌∙◌, subst}
 use Rattle.std.proofs.lemmas.Bool.Decides.{nat_tests}
 use Rattle.osc_class.specs.Rooms.{IsRoom}
 use Rattle.osc_class.specs.declared.Room.{Room}
 use Rattle.osc_slot.specs.declared.Block.{Block}
 use Rattle.osc_slot.specs.declared.HeapPage.{HeapPage}
-use Rattle.osc_slot.specs.Ordered.{AllAbove, IsAscending}
+use Rattle.osc_slot.specs.Ordered.{IsAscending}
 use Rattle.osc_slot.specs.Areas.{slots_in, start_of, block_at_slot}
-use Rattle.osc_slot.specs.Slots.{is_block, is_held, holds_in}
-use Rattle.osc_slot.specs.Heap.{Heap, ArePlaced, IsHeap, block_of_user}
+use Rattle.osc_slot.specs.Slots.{is_block, is_held}
+use Rattle.osc_slot.specs.Heap.{Heap, block_of_user}
 use Rattle.osc_slot.proofs.InOrder.{has_number}
 use Rattle.osc_slot.proofs.HeldBlocks.{same_block, Found, found}
 use Rattle.osc_slot.proofs.Releasing.{above_member}

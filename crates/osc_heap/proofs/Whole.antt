@@ -1,13 +1,13 @@
 -- Areas that are made, cleared and copied as a whole.
-use Rattle.std.proofs.Common.{ℕ, zero, suc, ◌≡◌, ◌<◌, ◌≤◌, ◌+◌, ◌-◌, ◌&&◌, ◌||◌, Bool, true, false, not, cond, List, [], ◌∷◌, ◌++◌, Option, Some, None, length, map, take, drop, get_or, replicate, slice_index_or, slice_get, slice_set, arith, refl, sym, ap, ◌∙◌, subst, add-one, drop-cons}
-use Rattle.std.specs.List.{list_any, list_all}
+use Rattle.std.proofs.Common.{ℕ, zero, suc, ◌≡◌, ◌<◌, ◌≤◌, ◌+◌, Bool, true, false, cond, List, [], ◌∷◌, ◌++◌, Some, length, map, take, drop, get_or, replicate, slice_get, slice_set, arith, refl, sym, ap, ◌∙◌, subst}
+use Rattle.std.specs.List.{list_any}
 use Rattle.std.proofs.lemmas.Bool.Decides.{nat_tests}
 use Rattle.std.proofs.lemmas.Grind.{common_steps}
 use Rattle.osc_class.specs.declared.Room.{Room}
 use Rattle.osc_slot.specs.declared.Block.{Block}
 use Rattle.osc_slot.specs.declared.HeapPage.{HeapPage}
 use Rattle.osc_slot.specs.Areas.{slots_in}
-use Rattle.osc_slot.specs.Heap.{Heap, give_back, clear, copy, rename, empty_heap, IsHeap, FramesAgree, AreNames, AreTaken, HaveFrames, free_count}
+use Rattle.osc_slot.specs.Heap.{Heap, give_back, copy, rename, empty_heap, IsHeap, FramesAgree, AreNames, AreTaken, HaveFrames, free_count}
 use Rattle.std.proofs.lemmas.List.Sums.{sum_by-cons}
 use Rattle.osc_slot.proofs.Backing.{free_count-le, free_count-give_back, length-give_back}
 use Rattle.osc_slot.proofs.Copying.{empty_is_heap, clear_keeps, copy_is_heap}

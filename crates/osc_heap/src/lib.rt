@@ -86,12 +86,12 @@ impl CanonHeap {
         ensures held { IfSome result (λ block. (is_held self.now.held block ≡ true) × IsRoom block.room) }
         ensures valid { IsHeap self.now }
     {
-        let _frames = self.frames;
+        let frames = self.frames;
         if user < HEADER {
             return None;
         }
         let start = user - HEADER;
-        let (room, slot) = slots::slot_at(self.frames, start)?;
+        let (room, slot) = slots::slot_at(frames, start)?;
         if areas::is_held(&self.areas, room, slot) {
             Some(Block { start, room })
         } else {

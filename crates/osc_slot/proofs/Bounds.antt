@@ -1,14 +1,11 @@
 -- Where slots lie: within their areas, and apart from each other.
-use Rattle.std.proofs.Common.{ℕ, zero, suc, ◌≡◌, ◌≢◌, ◌<◌, ◌≤◌, ◌==◌, ◌&&◌, ◌+◌, ◌*◌, ◌/◌, ◌%◌, ◌⊎◌, inl, inr, ⊎_elim, Bool, true, false, arith, refl, sym, ap, ◌∙◌, ◌↔◌}
-use Rattle.std.proofs.lemmas.Bool.Decides.{nat_tests}
-use Rattle.std.proofs.lemmas.Bool.{cases_lt, cases_order}
-use Rattle.std.proofs.Math.Nat.{mul-le-mul_right, suc-mul, le-div_iff_mul-le, div-lt_iff_lt-mul, div-add-mod', mod-lt, div-eq_of_lt-le}
+use Rattle.std.proofs.Common.{ℕ, suc, ◌≡◌, ◌≢◌, ◌<◌, ◌≤◌, ◌+◌, ◌*◌, ◌/◌, ◌%◌, ◌⊎◌, inl, inr, ⊎_elim, arith, refl, ap}
+use Rattle.std.proofs.lemmas.Bool.{cases_lt}
+use Rattle.std.proofs.Math.Nat.{mul-le-mul_right, suc-mul, le-div_iff_mul-le, div-lt_iff_lt-mul, div-add-mod', mod-lt}
 use Rattle.osc_class.specs.Rooms.{size_of, IsRoom, block_bytes, shadow_pages}
 use Rattle.osc_class.specs.declared.Room.{Room}
 use Rattle.osc_class.specs.declared.Room.TheVariants.{Small, Pages}
-use Rattle.osc_slot.specs.declared.Block.{Block}
 use Rattle.osc_slot.specs.Areas.{first_page, area_of, slots_of, slots_in, page_in, offset_in, page_of, start_of, LieApart, block_at_slot}
-use Rattle.osc_slot.specs.Slots.{is_room}
 
 pub size_positive : (class : ℕ) → class < 13 → 0 < size_of class
 size_positive class l = grind arith

@@ -1,15 +1,12 @@
 -- What an empty heap, clearing and copying keep.
-use Rattle.std.proofs.Common.{ℕ, zero, suc, ◌≡◌, ◌<◌, ◌==◌, ◌&&◌, ◌||◌, ◌+◌, ◌*◌, Bool, true, false, cond, List, [], ◌∷◌, Option, Some, None, is_some, length, map, find, slice_index, arith, refl, sym, ap, ◌∙◌}
+use Rattle.std.proofs.Common.{ℕ, suc, ◌≡◌, ◌==◌, ◌&&◌, ◌*◌, Bool, true, false, cond, List, [], ◌∷◌, Option, Some, None, is_some, length, map, find, slice_index, arith, refl, sym, ap, ◌∙◌}
 use Rattle.std.specs.List.{list_any}
 use Rattle.std.specs.Option.{option_map}
-use Rattle.std.proofs.lemmas.Bool.Decides.{nat_tests}
-use Rattle.osc_slot.specs.declared.Block.{Block}
 use Rattle.osc_slot.specs.declared.HeapPage.{HeapPage}
-use Rattle.osc_slot.specs.Least.{passing}
 use Rattle.osc_slot.specs.Ordered.{AllAbove, IsAscending}
 use Rattle.osc_slot.specs.Areas.{first_page}
-use Rattle.osc_slot.specs.Slots.{is_on, is_covered, is_small, block_frames}
-use Rattle.osc_slot.specs.Heap.{Heap, HeapAndFree, give_back, clear, copy, empty_heap, rename, frame_of, frame_of_found, AreTaken, HaveFrames, ArePlaced, IsHeap, FramesAgree, Keeps, AreNames, free_count}
+use Rattle.osc_slot.specs.Slots.{is_on, is_small, block_frames}
+use Rattle.osc_slot.specs.Heap.{Heap, clear, copy, empty_heap, rename, frame_of, frame_of_found, AreTaken, HaveFrames, ArePlaced, IsHeap, FramesAgree, Keeps, AreNames}
 use Rattle.osc_slot.proofs.Counting.{passing_none}
 use Rattle.osc_slot.proofs.Backing.{length-give_back, free_count-give_back}
 

@@ -1,20 +1,20 @@
 -- A slot exists wherever the need is at most the free frames.
-use Rattle.std.proofs.Common.{ℕ, zero, suc, ◌≡◌, ◌≢◌, ◌<◌, ◌≤◌, ◌==◌, nat_lt, nat_le, ◌&&◌, ◌||◌, ◌+◌, ◌-◌, ◌*◌, ◌/◌, ◌%◌, ◌⊎◌, inl, inr, ⊎_elim, Bool, true, false, not, cond, List, [], ◌∷◌, Option, Some, None, IsSome, is_some, sum_by, arith, refl, sym, ap, ◌∙◌}
+use Rattle.std.proofs.Common.{ℕ, suc, ◌≡◌, ◌≢◌, ◌<◌, ◌≤◌, ◌==◌, ◌&&◌, ◌||◌, ◌+◌, ◌-◌, ◌*◌, ◌/◌, ⊎_elim, Bool, true, false, cond, List, [], ◌∷◌, Option, Some, None, IsSome, is_some, sum_by, arith, refl, sym, ◌∙◌}
 use Rattle.std.specs.List.{list_any}
 use Rattle.std.proofs.lemmas.Bool.Decides.{nat_tests}
 use Rattle.std.proofs.lemmas.Bool.{cases_lt}
 use Rattle.std.proofs.lemmas.List.Sums.{sum_by-cons}
 use Rattle.std.proofs.Math.Nat.{mul-le-mul_right, suc-mul, le-div_iff_mul-le}
-use Rattle.osc_class.specs.Rooms.{size_of, IsRoom, block_bytes, shadow_pages}
+use Rattle.osc_class.specs.Rooms.{IsRoom}
 use Rattle.osc_class.specs.declared.Room.{Room}
 use Rattle.osc_class.specs.declared.Room.TheVariants.{Small, Pages}
 use Rattle.osc_slot.specs.declared.Block.{Block}
-use Rattle.osc_slot.specs.Least.{least, any, passing}
-use Rattle.osc_slot.specs.Areas.{first_page, area_of, slots_of, start_of, block_at_slot}
-use Rattle.osc_slot.specs.Slots.{is_room, is_block, is_held, holds_in, has_block, is_on, is_small, beside, empty_page, first_slot, or_else, slot, need, need_over, least_start, start_of_slot, own_frames, block_frames}
-use Rattle.osc_slot.proofs.Counting.{some_fails, passing_le, passing_more_pass, passing_split, passing_moved, passing_either, passing_none, passing_once}
+use Rattle.osc_slot.specs.Least.{passing}
+use Rattle.osc_slot.specs.Areas.{first_page, slots_of, start_of, block_at_slot}
+use Rattle.osc_slot.specs.Slots.{is_block, holds_in, has_block, is_on, is_small, beside, empty_page, first_slot, or_else, slot, need, least_start, start_of_slot, own_frames, block_frames}
+use Rattle.osc_slot.proofs.Counting.{some_fails, passing_more_pass, passing_split, passing_moved, passing_either, passing_none, passing_once}
 use Rattle.osc_slot.proofs.Bounds.{later_slot, later_area, bytes_positive}
-use Rattle.osc_slot.proofs.HeldBlocks.{same_room, same_block, small_page}
+use Rattle.osc_slot.proofs.HeldBlocks.{small_page}
 
 -- blocks of one room at one start are at one slot
 pub same_slot : (frames : ℕ) (room : Room) (i j : ℕ) → IsRoom room → start_of frames room i ≡ start_of frames room j → i ≡ j

@@ -1,20 +1,19 @@
 -- What a block at a free slot adds to the held ones.
-use Rattle.std.proofs.Common.{ℕ, zero, suc, ◌≡◌, ◌≢◌, ◌<◌, ◌≤◌, ◌==◌, nat_lt, nat_le, ◌&&◌, ◌||◌, ◌+◌, ◌*◌, ◌/◌, ◌%◌, ◌⊎◌, inl, inr, ⊎_elim, Bool, true, false, not, cond, List, [], ◌∷◌, Option, Some, None, is_some, sum_by, arith, refl, sym, ap, ◌∙◌}
+use Rattle.std.proofs.Common.{ℕ, suc, ◌≡◌, ◌≢◌, ◌<◌, ◌≤◌, ◌==◌, nat_lt, nat_le, ◌&&◌, ◌||◌, ◌+◌, ◌*◌, ◌/◌, ⊎_elim, Bool, true, false, cond, List, arith, refl, sym, ap, ◌∙◌}
 use Rattle.std.specs.List.{list_any}
 use Rattle.std.proofs.lemmas.Bool.Decides.{nat_tests}
 use Rattle.std.proofs.lemmas.Bool.{cases_lt}
 use Rattle.std.proofs.Math.Nat.{mul-le-mul_right, suc-mul}
-use Rattle.osc_class.specs.Rooms.{size_of, IsRoom, block_bytes, shadow_pages}
+use Rattle.osc_class.specs.Rooms.{IsRoom, block_bytes, shadow_pages}
 use Rattle.osc_class.specs.declared.Room.{Room}
 use Rattle.osc_class.specs.declared.Room.TheVariants.{Small, Pages}
 use Rattle.osc_slot.specs.declared.Block.{Block}
-use Rattle.osc_slot.specs.Least.{least, any, passing}
-use Rattle.osc_slot.specs.Areas.{first_page, area_of, slots_of, slots_in, page_in, page_of, start_of, block_at_slot, IsPlaced, LieApart}
-use Rattle.osc_slot.specs.Slots.{is_room, is_block, is_held, holds_in, has_block, is_on, is_covered, is_small, own_frames, pages_alone, block_frames}
+use Rattle.osc_slot.specs.Areas.{first_page, slots_of, slots_in, page_of, start_of, block_at_slot, IsPlaced}
+use Rattle.osc_slot.specs.Slots.{is_block, is_held, holds_in, has_block, is_on, is_covered, is_small, own_frames, pages_alone, block_frames}
 use Rattle.osc_slot.specs.Heap.{with_block, ArePlaced}
 use Rattle.osc_slot.proofs.Counting.{passing_same, passing_more}
 use Rattle.osc_slot.proofs.InOrder.{any-insert, sum-insert, has_number}
-use Rattle.osc_slot.proofs.Bounds.{pages_within, pages_positive, bytes_positive, start_page, later_area, apart}
+use Rattle.osc_slot.proofs.Bounds.{pages_within, bytes_positive, start_page, later_area, apart}
 use Rattle.osc_slot.proofs.HeldBlocks.{same_block, is_block_self, any_weaker, Found, found, small_page, covering_room, covered_has_block}
 
 -- the pages that a block at a slot covers beside those of the held blocks

@@ -1,19 +1,18 @@
 -- Which pages a list of held blocks covers.
-use Rattle.std.proofs.Common.{ℕ, zero, suc, ◌≡◌, ◌≢◌, ◌<◌, ◌≤◌, ◌==◌, nat_lt, nat_le, ◌&&◌, ◌||◌, ◌+◌, ◌*◌, ◌/◌, ◌%◌, ◌⊎◌, inl, inr, ⊎_elim, Bool, true, false, not, cond, List, [], ◌∷◌, Option, Some, None, is_some, filter, arith, refl, sym, ap, ◌∙◌}
+use Rattle.std.proofs.Common.{ℕ, ◌≡◌, ◌<◌, ◌≤◌, ◌&&◌, ◌||◌, ◌+◌, ◌*◌, ◌/◌, ◌%◌, ⊎_elim, Bool, true, false, List, [], ◌∷◌, arith, refl, ap, ◌∙◌}
 use Rattle.std.specs.List.{list_any}
 use Rattle.std.proofs.lemmas.Bool.Decides.{nat_tests}
 use Rattle.std.proofs.lemmas.Bool.{cases_lt}
-use Rattle.std.proofs.Math.Nat.{mul-le-mul_right, suc-mul, div-eq_of_lt-le, div-add-mod', mod-lt}
-use Rattle.osc_class.specs.Rooms.{size_of, IsRoom, block_bytes, shadow_pages}
+use Rattle.std.proofs.Math.Nat.{div-eq_of_lt-le, div-add-mod', mod-lt}
+use Rattle.osc_class.specs.Rooms.{IsRoom, shadow_pages}
 use Rattle.osc_class.specs.declared.Room.{Room}
 use Rattle.osc_class.specs.declared.Room.TheVariants.{Small, Pages}
 use Rattle.osc_slot.specs.declared.Block.{Block}
-use Rattle.osc_slot.specs.Least.{any}
-use Rattle.osc_slot.specs.Areas.{first_page, area_of, slots_of, slots_in, page_in, page_of, start_of, block_at_slot, IsPlaced, LieApart}
+use Rattle.osc_slot.specs.Areas.{first_page, area_of, slots_of, page_of, start_of, block_at_slot, IsPlaced}
 use Rattle.osc_slot.specs.Slots.{is_room, is_block, is_held, holds_in, has_block, is_on, is_covered, is_small}
 use Rattle.osc_slot.specs.Heap.{ArePlaced}
 use Rattle.osc_slot.proofs.Counting.{any_where, any_at}
-use Rattle.osc_slot.proofs.Bounds.{slots_positive, pages_within, pages_positive, bytes_positive, start_page, later_area, pages_before, same_area, apart}
+use Rattle.osc_slot.proofs.Bounds.{slots_positive, pages_within, start_page, later_area, same_area}
 
 pub same_room : (a b : Room) → is_room a b ≡ true → a ≡ b
 same_room (Small a) (Small b) e = let h : a ≡ b = grind (arith, nat_tests) in ap Small h

@@ -1,23 +1,19 @@
 -- What placing a block keeps.
-use Rattle.std.proofs.Common.{ℕ, zero, suc, ◌≡◌, ◌≢◌, ◌<◌, ◌≤◌, ◌==◌, nat_lt, nat_le, ◌&&◌, ◌||◌, ◌+◌, ◌*◌, ◌/◌, ◌%◌, Bool, true, false, not, cond, List, [], ◌∷◌, Option, Some, None, IsSome, is_some, length, unwrap_or, arith, refl, sym, ap, subst, ◌∙◌}
-use Rattle.std.specs.List.{list_any}
-use Rattle.std.proofs.lemmas.Bool.Decides.{nat_tests}
+use Rattle.std.proofs.Common.{ℕ, suc, ◌≡◌, ◌<◌, ◌≤◌, nat_lt, nat_le, ◌&&◌, ◌||◌, ◌+◌, ◌*◌, ◌/◌, Bool, true, false, not, cond, List, [], ◌∷◌, Option, Some, None, IsSome, unwrap_or, arith, refl, sym, ap, subst, ◌∙◌}
 use Rattle.std.proofs.Math.Nat.{mul-le-mul_right, suc-mul, mul-div_left}
-use Rattle.osc_class.specs.Rooms.{IsRoom, shadow_pages}
+use Rattle.osc_class.specs.Rooms.{IsRoom}
 use Rattle.osc_class.specs.declared.Room.{Room}
 use Rattle.osc_class.specs.declared.Room.TheVariants.{Small, Pages}
 use Rattle.osc_slot.specs.declared.Block.{Block}
-use Rattle.osc_slot.specs.declared.HeapPage.{HeapPage}
-use Rattle.osc_slot.specs.Least.{least, any, passing}
-use Rattle.osc_slot.specs.Ordered.{insert_by, IsAscending}
-use Rattle.osc_slot.specs.Areas.{first_page, area_of, slots_of, slots_in, page_in, page_of, start_of, block_at_slot, IsPlaced}
-use Rattle.osc_slot.specs.Slots.{is_held, Holds, holds_in, has_block, is_on, is_covered, beside, empty_page, first_slot, or_else, slot, need, need_over, least_start, start_of_slot, block_frames}
-use Rattle.osc_slot.specs.Heap.{Heap, HeapAndFree, Backing, back, give_back, with_block, next_block, place, frame_of, AreTaken, HaveFrames, ArePlaced, IsHeap, FramesAgree, Keeps, free_count}
+use Rattle.osc_slot.specs.Ordered.{insert_by}
+use Rattle.osc_slot.specs.Areas.{slots_of, slots_in, page_of, start_of, block_at_slot, IsPlaced}
+use Rattle.osc_slot.specs.Slots.{holds_in, has_block, is_on, beside, empty_page, first_slot, or_else, slot, need, least_start, start_of_slot, block_frames}
+use Rattle.osc_slot.specs.Heap.{Heap, HeapAndFree, back, give_back, with_block, next_block, place, ArePlaced, IsHeap, FramesAgree, Keeps, free_count}
 use Rattle.osc_slot.proofs.Counting.{least-Some, any_none}
 use Rattle.osc_slot.proofs.InOrder.{any-insert, ascending-insert}
 use Rattle.osc_slot.proofs.Bounds.{slots_positive, start_page}
 use Rattle.osc_slot.proofs.Exists.{slot_exists}
-use Rattle.osc_slot.proofs.Backing.{Backs, Backed, back_all, free_count-le, free_count-give_back, length-give_back}
+use Rattle.osc_slot.proofs.Backing.{back_all, free_count-le, free_count-give_back, length-give_back}
 use Rattle.osc_slot.proofs.Fresh.{new_pages, Fresh, fresh}
 
 -- what a slot that was found is

@@ -1,16 +1,16 @@
 -- What releasing a block keeps.
-use Rattle.std.proofs.Common.{ℕ, zero, suc, ◌≡◌, ◌<◌, ◌≤◌, ◌==◌, nat_lt, nat_le, ◌&&◌, ◌||◌, ◌+◌, ◌/◌, Bool, true, false, not, cond, List, [], ◌∷◌, Option, Some, None, is_some, length, filter, find, arith, refl, sym, ap, subst, ◌∙◌}
+use Rattle.std.proofs.Common.{ℕ, ◌≡◌, ◌<◌, ◌≤◌, ◌==◌, nat_lt, nat_le, ◌&&◌, ◌||◌, ◌+◌, Bool, true, false, not, cond, List, [], ◌∷◌, Option, None, is_some, length, filter, find, arith, refl, sym, ap, subst, ◌∙◌}
 use Rattle.std.specs.List.{list_any}
 use Rattle.std.proofs.lemmas.Bool.Decides.{nat_tests}
-use Rattle.osc_class.specs.Rooms.{IsRoom, shadow_pages}
+use Rattle.osc_class.specs.Rooms.{IsRoom}
 use Rattle.osc_slot.specs.declared.Block.{Block}
 use Rattle.osc_slot.specs.declared.HeapPage.{HeapPage}
 use Rattle.osc_slot.specs.Ordered.{insert_by, AllAbove, IsAscending}
-use Rattle.osc_slot.specs.Areas.{slots_in, page_of, start_of, block_at_slot, IsPlaced}
-use Rattle.osc_slot.specs.Slots.{is_room, is_block, is_held, holds_in, is_on, is_covered, block_frames}
-use Rattle.osc_slot.specs.Heap.{Heap, HeapAndFree, give_back, with_block, without_block, release, clear, copy, empty_heap, rename, frame_of, frame_of_found, AreTaken, HaveFrames, ArePlaced, IsHeap, FramesAgree, Keeps, AreNames, free_count}
-use Rattle.osc_slot.proofs.InOrder.{any-insert, any-filter, has_number, ascending-filter, insert-front, find-filter, filter_same, length-filter_both, length_range}
-use Rattle.osc_slot.proofs.HeldBlocks.{same_block, is_block_self, Found, found}
+use Rattle.osc_slot.specs.Areas.{slots_in, page_of, block_at_slot, IsPlaced}
+use Rattle.osc_slot.specs.Slots.{is_block, is_held, holds_in, is_on, is_covered, block_frames}
+use Rattle.osc_slot.specs.Heap.{Heap, with_block, without_block, release, frame_of, frame_of_found, AreTaken, ArePlaced, IsHeap, FramesAgree, Keeps}
+use Rattle.osc_slot.proofs.InOrder.{any-insert, any-filter, ascending-filter, insert-front, find-filter, filter_same, length-filter_both, length_range}
+use Rattle.osc_slot.proofs.HeldBlocks.{same_block, Found, found}
 use Rattle.osc_slot.proofs.Backing.{length-give_back, free_count-give_back, taken-give_back, frames-filter, has_page}
 use Rattle.osc_slot.proofs.Fresh.{new_pages, Fresh, fresh, placed_is}
 

@@ -1,7 +1,7 @@
 -- Where the blocks of a heap lie: an area of pages for each size class, and one for each number of pages.
 -- This project's own.
 use Rattle.std.specs.Prelude.{ℕ, ◌+◌, ◌*◌, ◌/◌, ◌%◌, ◌≡◌, ◌<◌, ◌≤◌, ◌⊎◌}
-use Rattle.osc_class.specs.Rooms.{size_of, IsRoom, block_bytes, shadow_pages}
+use Rattle.osc_class.specs.Rooms.{size_of, IsRoom, block_bytes}
 use Rattle.osc_class.specs.declared.Room.{Room}
 use Rattle.osc_class.specs.declared.Room.TheVariants.{Small, Pages}
 use Rattle.osc_slot.specs.declared.Block.{Block}

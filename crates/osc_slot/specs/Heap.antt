@@ -1,5 +1,5 @@
 -- The heap of one process, and what placing and releasing a block make of it. This project's own.
-use Rattle.std.specs.Prelude.{ℕ, zero, suc, ◌+◌, ◌/◌, ◌≡◌, ◌≤◌, ◌<◌, ◌==◌, Bool, true, false, not, List, [], ◌∷◌, Option, Some, None, is_some, unwrap_or, length, map, filter, find, position, count_by, slice_get, slice_set, slice_index}
+use Rattle.std.specs.Prelude.{ℕ, zero, suc, ◌+◌, ◌/◌, ◌≡◌, ◌<◌, ◌==◌, Bool, true, false, not, List, [], ◌∷◌, Option, Some, None, is_some, unwrap_or, length, map, filter, find, position, count_by, slice_get, slice_set, slice_index}
 use Rattle.std.specs.List.{list_any}
 use Rattle.osc_class.specs.declared.Room.{Room}
 use Rattle.osc_slot.specs.declared.Block.{Block}

@@ -1,6 +1,6 @@
 -- Which slot the next block takes, over a test of what is held, and which frames the held blocks need.
 -- This project's own.
-use Rattle.std.specs.Prelude.{ℕ, ◌+◌, ◌*◌, ◌/◌, Bool, true, false, not, ◌==◌, nat_lt, nat_le, ◌&&◌, ◌||◌, if◌then◌else◌, List, [], ◌∷◌, Option, Some, None, is_some, sum_by, filter}
+use Rattle.std.specs.Prelude.{ℕ, ◌+◌, ◌*◌, ◌/◌, Bool, true, false, not, ◌==◌, nat_lt, nat_le, ◌&&◌, if◌then◌else◌, List, Option, Some, None, is_some, sum_by}
 use Rattle.std.specs.List.{list_any}
 use Rattle.osc_class.specs.Rooms.{shadow_pages}
 use Rattle.osc_class.specs.declared.Room.{Room}

@@ -1,5 +1,5 @@
 -- A held block starts there exactly where a slot does and is held.
-use Rattle.std.proofs.Common.{◌≡◌, ◌≤◌, ◌-◌, true, false, refl, sym, ◌∙◌, arith}
+use Rattle.std.proofs.Common.{◌≡◌, ◌-◌, true, false, refl, sym, ◌∙◌}
 use Rattle.std.specs.Vec.{vec_capacity}
 use Rattle.osc_heap.specs.Layout.{bits}
 use Rattle.osc_heap.proofs.UserBlocks.{below_all, held_here, user_here, no_user_here, no_slot_here}

@@ -1,7 +1,7 @@
 -- The child has the same blocks over its own frames.
-use Rattle.std.proofs.Common.{◌≡◌, ◌≤◌, sym, ap, ◌∙◌, arith, map, length}
+use Rattle.std.proofs.Common.{◌≡◌, sym, ap, ◌∙◌, arith}
 use Rattle.std.specs.Vec.{vec_capacity}
-use Rattle.osc_slot.specs.Heap.{Heap, rename}
+use Rattle.osc_slot.specs.Heap.{Heap}
 use Rattle.osc_heap.proofs.Whole.{pages_le, copied}
 use Rattle.osc_heap.proofs.CanonHeap.copy_to.Goals as goal
 

@@ -1,5 +1,5 @@
 -- The need over the truth values is the need of the held blocks.
-use Rattle.std.proofs.Common.{◌≡◌, ◌∙◌}
+use Rattle.std.proofs.Common.{◌∙◌}
 use Rattle.osc_heap.proofs.Parts.{need_here}
 use Rattle.osc_heap.proofs.CanonHeap.need.Goals as goal
 

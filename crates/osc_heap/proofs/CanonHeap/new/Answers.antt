@@ -1,5 +1,5 @@
 -- The areas that were made are free, and the pages have room for all frames.
-use Rattle.std.proofs.Common.{◌≡◌, ◌≤◌, sym, ap, ◌∙◌, arith}
+use Rattle.std.proofs.Common.{arith}
 use Rattle.std.specs.Vec.{vec_capacity}
 use Rattle.osc_heap.proofs.Whole.{empty_parts, empty_view}
 use Rattle.osc_heap.proofs.CanonHeap.new.Goals as goal

@@ -1,5 +1,5 @@
 -- What was found is the next slot, and what is left is the heap with the block.
-use Rattle.std.proofs.Common.{rules, ◌≡◌, ◌≤◌, ◌+◌, Some, length, arith, sym, ap, ◌∙◌}
+use Rattle.std.proofs.Common.{rules, ◌≡◌, Some, length, sym, ap, ◌∙◌}
 use Rattle.std.specs.Vec.{vec_len, vec_capacity}
 use Rattle.osc_slot.specs.Slots.{slot, need_over}
 use Rattle.osc_slot.specs.Heap.{Heap}

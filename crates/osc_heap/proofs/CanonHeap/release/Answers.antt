@@ -1,8 +1,6 @@
 -- The slot that the block's start tells is its own, and what is left is the heap without the block.
-use Rattle.std.proofs.Common.{rules, ◌≡◌, ◌≤◌, ◌<◌, ◌+◌, ◌/◌, false, length, arith, sym, ap, ◌∙◌}
-use Rattle.std.specs.Vec.{vec_len, vec_capacity}
-use Rattle.osc_class.specs.Rooms.{shadow_pages}
-use Rattle.osc_slot.specs.Areas.{area_of}
+use Rattle.std.proofs.Common.{◌≡◌, ◌/◌, false, arith, ap}
+use Rattle.std.specs.Vec.{vec_capacity}
 use Rattle.osc_slot.specs.Slots.{pages_alone}
 use Rattle.osc_slot.specs.Heap.{Heap}
 use Rattle.osc_heap.specs.Layout.{bits, with_bit}

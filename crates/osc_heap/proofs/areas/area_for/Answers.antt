@@ -1,6 +1,5 @@
 -- The row at the room's area has the length of its area.
 use Rattle.std.proofs.Common.{arith, ◌≡◌, ap, ◌∙◌, length}
-use Rattle.osc_slot.specs.Areas.{area_of}
 use Rattle.std.proofs.lemmas.Grind.{common_steps}
 use Rattle.osc_heap.specs.Layout.{row_of}
 use Rattle.osc_heap.proofs.Changes.{room_sized}

@@ -1,5 +1,5 @@
 -- What the class's row says is what the truth values say.
-use Rattle.std.proofs.Common.{◌≡◌, ◌∙◌}
+use Rattle.std.proofs.Common.{◌∙◌}
 use Rattle.osc_heap.proofs.Parts.{beside_is}
 use Rattle.osc_heap.proofs.areas.beside.Goals as goal
 

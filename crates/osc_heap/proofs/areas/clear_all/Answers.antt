@@ -1,6 +1,5 @@
 -- The area at the loop's place is the next that is cleared.
-use Rattle.std.proofs.Common.{rules, ◌≡◌, ◌<◌, length, arith}
-use Rattle.std.proofs.lemmas.Grind.{common_steps}
+use Rattle.std.proofs.Common.{rules, ◌<◌, length}
 use Rattle.osc_heap.proofs.Whole.{cleared_next}
 use Rattle.osc_heap.proofs.areas.clear_all.Goals as goal
 

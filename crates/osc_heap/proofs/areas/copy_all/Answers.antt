@@ -1,5 +1,5 @@
 -- The area at the loop's place is the next that is copied.
-use Rattle.std.proofs.Common.{◌≡◌, ◌<◌, length, arith, ap, ◌∙◌, get_or}
+use Rattle.std.proofs.Common.{arith, ap, ◌∙◌, get_or}
 use Rattle.osc_heap.proofs.Whole.{copied_next, next_size}
 use Rattle.osc_heap.proofs.areas.copy_all.Goals as goal
 

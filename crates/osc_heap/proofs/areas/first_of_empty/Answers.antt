@@ -1,5 +1,5 @@
 -- What the class's row says is what the truth values say.
-use Rattle.std.proofs.Common.{◌≡◌, ◌∙◌, ap}
+use Rattle.std.proofs.Common.{◌∙◌, ap}
 use Rattle.osc_slot.specs.Areas.{slots_of}
 use Rattle.osc_slot.specs.Slots.{first_slot}
 use Rattle.osc_heap.proofs.Parts.{empty_page_is}

@@ -1,8 +1,8 @@
 -- Each area that is pushed is free and has its size.
-use Rattle.std.proofs.Common.{◌≡◌, ◌+◌, length, true, refl, ap, sym, ◌∙◌, arith, List, Bool, false, ◌++◌, ◌∷◌, [], replicate}
+use Rattle.std.proofs.Common.{◌≡◌, refl, ap, ◌∙◌, arith, false, ◌++◌, ◌∷◌, [], replicate}
 use Rattle.std.proofs.lemmas.Grind.{common_steps}
 use Rattle.osc_slot.specs.Areas.{slots_in}
-use Rattle.osc_heap.specs.Layout.{room_at, AreSized, all_free}
+use Rattle.osc_heap.specs.Layout.{room_at}
 use Rattle.osc_heap.proofs.Whole.{no_areas, sized_push, free_push, length-free_row}
 use Rattle.osc_heap.proofs.areas.free_areas.Goals as goal
 

@@ -1,5 +1,5 @@
 -- The page at the loop's place is the first of those that are left.
-use Rattle.std.proofs.Common.{◌≡◌, ◌+◌, arith, refl, sym, ap, ◌∙◌, drop}
+use Rattle.std.proofs.Common.{◌+◌, sym, ap, ◌∙◌, drop}
 use Rattle.osc_slot.specs.Heap.{give_back}
 use Rattle.osc_heap.proofs.Scans.{give_back-drop, can_give-drop}
 use Rattle.osc_heap.proofs.pages.give_all.Goals as goal

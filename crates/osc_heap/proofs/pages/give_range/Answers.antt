@@ -1,5 +1,5 @@
 -- The page at the loop's place is the first of those that are left.
-use Rattle.std.proofs.Common.{rules, ◌≡◌, ◌+◌, ◌<◌, ◌≤◌, length, filter, arith, refl, sym, ap, ◌∙◌, drop, take, ◌++◌}
+use Rattle.std.proofs.Common.{rules, ◌<◌, ◌≤◌, length, filter, refl, sym, ap, ◌∙◌, drop, take, ◌++◌}
 use Rattle.std.specs.List.{remove}
 use Rattle.osc_slot.specs.Heap.{give_back}
 use Rattle.osc_heap.specs.Layout.{in_range, out_of_range}

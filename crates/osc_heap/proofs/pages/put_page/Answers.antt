@@ -1,5 +1,5 @@
 -- What was inserted stands where the definition puts it.
-use Rattle.std.proofs.Common.{◌≡◌, ℕ, ap, sym, ◌∙◌, unwrap_or, length, position, nat_le}
+use Rattle.std.proofs.Common.{◌≡◌, ap, sym, ◌∙◌, unwrap_or, length, position, nat_le}
 use Rattle.std.specs.List.{insert}
 use Rattle.osc_slot.specs.declared.HeapPage.{HeapPage}
 use Rattle.osc_heap.proofs.Scans.{insert_found}

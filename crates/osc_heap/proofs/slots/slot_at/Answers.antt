@@ -1,8 +1,6 @@
 -- A block that starts there would be of the room that its area tells, at the slot that its page tells.
-use Rattle.std.proofs.Common.{ℕ, ◌≡◌, ◌<◌, ◌≤◌, ◌+◌, ◌/◌, ◌-◌, arith, refl, sym, ap, ◌∙◌}
-use Rattle.osc_class.specs.declared.Room.{Room}
-use Rattle.osc_class.specs.Rooms.{IsRoom}
-use Rattle.osc_slot.specs.Areas.{first_page, area_of, slots_in, start_of}
+use Rattle.std.proofs.Common.{◌≡◌, ◌<◌, ◌≤◌, ◌+◌, ◌/◌, ◌-◌, arith, refl, sym, ap, ◌∙◌}
+use Rattle.osc_slot.specs.Areas.{first_page, area_of, slots_in}
 use Rattle.osc_heap.specs.Layout.{room_at}
 use Rattle.osc_heap.proofs.Decode.{near_area, area_most, near_room}
 use Rattle.osc_heap.proofs.slots.slot_at.Goals as goal

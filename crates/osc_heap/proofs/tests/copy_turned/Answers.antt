@@ -1,6 +1,5 @@
 -- Two frames that change places are still two.
-use Rattle.std.proofs.Common.{ℕ, zero, suc, ◌≡◌, ◌<◌, ◌==◌, ◌||◌, Bool, true, false, List, [], ◌∷◌, map, slice_index, arith, refl, sym, ap, ◌∙◌, subst}
-use Rattle.std.proofs.lemmas.Bool.Decides.{nat_tests}
+use Rattle.std.proofs.Common.{ℕ, zero, suc, ◌≡◌, ◌<◌, ◌==◌, ◌||◌, List, [], ◌∷◌, map, slice_index, arith, refl, sym, ap, ◌∙◌, subst}
 use Rattle.osc_slot.specs.declared.HeapPage.{HeapPage}
 use Rattle.osc_slot.specs.Heap.{HaveFrames, has_frame, rename}
 use Rattle.osc_heap.proofs.tests.copy_turned.Goals as goal
