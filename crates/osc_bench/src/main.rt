@@ -4,11 +4,13 @@
 #![tactic(auto)]
 
 mod heap;
+mod tables;
 mod words;
 
 use anyhow::{Context, Result};
 use std::alloc::{AllocError, Global};
 use std::env;
+use tables::Order;
 
 /// What can be timed.
 #[derive(Clone, Copy)]
@@ -16,6 +18,7 @@ enum Part {
     Decode,
     Encode,
     Heap,
+    Tables(Order),
 }
 
 impl Part {
@@ -24,6 +27,8 @@ impl Part {
             "decode" => Some(Part::Decode),
             "encode" => Some(Part::Encode),
             "heap" => Some(Part::Heap),
+            "tables-latest" => Some(Part::Tables(Order::Latest)),
+            "tables-oldest" => Some(Part::Tables(Order::Oldest)),
             _ => None,
         }
     }
@@ -33,6 +38,7 @@ impl Part {
             Part::Decode => Ok(words::decoded(count)),
             Part::Encode => Ok(words::encoded(count)),
             Part::Heap => heap::paired(alloc, count),
+            Part::Tables(order) => tables::paired(alloc, count, order),
         }
     }
 }
@@ -41,7 +47,9 @@ fn main(rt: HostRuntime) -> Result<()> {
     let mut arguments = env::args(&rt)?.skip(1);
     let name = arguments.next().context("the words are PART and COUNT")?;
     let count = arguments.next().context("the words are PART and COUNT")?;
-    let part = Part::named(name.as_str()).context("PART is decode, encode or heap")?;
+    let part = Part::named(name.as_str()).context(
+        "PART is decode, encode, heap, tables-latest or tables-oldest",
+    )?;
     let count: u64 = count.parse().context("COUNT is a number")?;
     let checksum = part.checksum(rt.alloc(), count)?;
     println!(rt; "{checksum}")?;

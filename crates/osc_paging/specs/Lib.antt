@@ -5,3 +5,5 @@ pub mod Agree
 pub mod Boxes
 pub mod TableLaws
 pub mod CacheLaws
+pub use Rattle.osc_sv39.specs.Entries
+pub use Rattle.osc_sv39.specs.Walk

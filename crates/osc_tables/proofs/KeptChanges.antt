@@ -16,7 +16,8 @@ use Rattle.osc_paging.proofs.WordLists.{slice_get-set}
 use Rattle.osc_paging.proofs.TableLists.{piece_of-with_table, piece_of-without_none, piece_of-push}
 use Rattle.osc_paging.proofs.Kept.{length-frames_given}
 use Rattle.osc_tables.specs.Calls.{AllTaken, HasTaken, IsFresh}
-use Rattle.osc_tables.specs.Inside.{AscendWithin, LieWithin, Differ, IsKept, kept}
+use Rattle.osc_tables.specs.Inside.{AscendWithin, ComesBefore, InOrder, LieWithin, Differ, IsKept, kept}
+use Rattle.osc_tables.proofs.TablePlaces.{order-with_table, order-without_table}
 
 -- ---- pages
 ascend_more : (low lower high : ℕ) (ms : List Mapped) → AscendWithin low high ms → lower ≤ low → AscendWithin lower high ms
@@ -231,12 +232,13 @@ least_is_fresh pages tables aside room count frame free k h e =
       fits = omega (arith, h.count);
     }
 
-pub kept-with_table : (pages : List Mapped) (tables aside : List TableFrame) (room count : ℕ) (t : TableFrame) → IsKept 3 pages tables aside room count → IsFresh (kept pages tables aside room count) t.frame → t.piece.level < 3 → t.piece.number * 512 ^ suc t.piece.level < 134217728 → IsKept 3 pages (with_table t tables) aside room count
-kept-with_table pages tables aside room count t k f s r = record {
+pub kept-with_table : (pages : List Mapped) (tables aside : List TableFrame) (room count : ℕ) (t : TableFrame) → IsKept 3 pages tables aside room count → IsFresh (kept pages tables aside room count) t.frame → t.piece.level < 3 → t.piece.number * 512 ^ suc t.piece.level < 134217728 → frame_of tables t.piece.level t.piece.number ≡ None → IsKept 3 pages (with_table t tables) aside room count
+kept-with_table pages tables aside room count t k f s r none = record {
   pages_fit = k.pages_fit;
   tables_fit = let long = length-with_table t tables in omega (arith, f.fits);
   ascend = k.ascend;
   tables_lie = lie-with_table 3 t tables k.tables_lie s r;
+  tables_order = order-with_table t tables k.tables_order none;
   aside_lie = k.aside_lie;
   tables_differ = differ-with_table t tables k.tables_differ f.no_table;
   aside_differ = k.aside_differ;
@@ -262,6 +264,7 @@ kept-with_page pages tables aside room count n m k fits small none = record {
   tables_fit = k.tables_fit;
   ascend = ascend-with_page 0 134217728 n m pages k.ascend (omega arith) small none;
   tables_lie = k.tables_lie;
+  tables_order = k.tables_order;
   aside_lie = k.aside_lie;
   tables_differ = k.tables_differ;
   aside_differ = k.aside_differ;
@@ -274,6 +277,7 @@ kept-without_page pages tables aside room count n k = record {
   tables_fit = k.tables_fit;
   ascend = ascend-without_page 0 134217728 n pages k.ascend;
   tables_lie = k.tables_lie;
+  tables_order = k.tables_order;
   aside_lie = k.aside_lie;
   tables_differ = k.tables_differ;
   aside_differ = k.aside_differ;
@@ -294,6 +298,7 @@ kept-set_aside pages tables aside room count n f k e = record {
       omega arith;
   ascend = k.ascend;
   tables_lie = lie-without_table 3 0 n tables k.tables_lie;
+  tables_order = order-without_table 0 n tables k.tables_order;
   aside_lie = let w = lies_at 3 0 n f tables k.tables_lie e in lie_push (table_frame 0 n f) aside k.aside_lie w.0 w.1;
   tables_differ = differ-without_table 0 n tables k.tables_differ;
   aside_differ = differ_push (table_frame 0 n f) aside k.aside_differ (absent (piece_of aside f) refl);
@@ -333,6 +338,7 @@ kept-no_aside pages tables aside room count k = record {
   tables_fit = let was = k.tables_fit in omega arith;
   ascend = k.ascend;
   tables_lie = k.tables_lie;
+  tables_order = k.tables_order;
   aside_lie = tt;
   tables_differ = k.tables_differ;
   aside_differ = tt;
@@ -356,6 +362,7 @@ kept-nothing room count = record {
   tables_fit = omega arith;
   ascend = tt;
   tables_lie = tt;
+  tables_order = tt;
   aside_lie = tt;
   tables_differ = tt;
   aside_differ = tt;
@@ -368,6 +375,7 @@ kept-root room count root s = record {
   tables_fit = omega arith;
   ascend = tt;
   tables_lie = (omega arith, omega arith, tt);
+  tables_order = (tt, tt);
   aside_lie = tt;
   tables_differ = (refl, tt);
   aside_differ = tt;
@@ -431,6 +439,14 @@ renamed_lie : (names : List ℕ) (ts : List TableFrame) → LieWithin 3 ts → L
 renamed_lie names [] w = tt
 renamed_lie names (t ∷ ts) w = (w.0, w.1, renamed_lie names ts w.2)
 
+renamed_before : (names : List ℕ) (p : Piece) (ts : List TableFrame) → ComesBefore p ts → ComesBefore p (map (renamed_table names) ts)
+renamed_before names p [] a = tt
+renamed_before names p (t ∷ ts) a = (a.0, renamed_before names p ts a.1)
+
+renamed_order : (names : List ℕ) (ts : List TableFrame) → InOrder ts → InOrder (map (renamed_table names) ts)
+renamed_order names [] o = tt
+renamed_order names (t ∷ ts) o = (renamed_before names t.piece ts o.0, renamed_order names ts o.1)
+
 renamed_ascend : (names : List ℕ) (low high : ℕ) (ms : List Mapped) → AscendWithin low high ms → AscendWithin low high (map (renamed_page names) ms)
 renamed_ascend names low high [] a = tt
 renamed_ascend names low high (m ∷ ms) a = (a.0, a.1, renamed_ascend names (suc m.number) high ms a.2)
@@ -445,6 +461,7 @@ kept-renamed pages tables aside room count names k h = record {
   tables_fit = let long = length-renamed (renamed_table names) tables in let was = k.tables_fit in omega arith;
   ascend = renamed_ascend names 0 134217728 pages k.ascend;
   tables_lie = renamed_lie names tables k.tables_lie;
+  tables_order = renamed_order names tables k.tables_order;
   aside_lie = tt;
   tables_differ = renamed_differ names tables k.tables_differ h;
   aside_differ = tt;

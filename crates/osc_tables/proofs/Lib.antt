@@ -1,5 +1,5 @@
 pub mod PagePlaces
-pub mod TableScans
+pub mod TablePlaces
 pub mod KeptFacts
 pub mod Pieces
 pub mod Canonical

@@ -5,3 +5,6 @@ pub use Rattle.osc_paging.specs.KeptTables
 pub use Rattle.osc_paging.specs.TableChanges
 pub use Rattle.osc_paging.specs.Agree
 pub use Rattle.osc_paging.specs.TableLaws
+pub use Rattle.osc_word.specs.JobList
+pub use Rattle.osc_sv39.specs.Walk
+pub use Rattle.osc_frames.specs.Free

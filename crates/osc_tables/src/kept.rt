@@ -213,6 +213,7 @@ impl Tables {
     fn add_table(&mut self, new: TableFrame, parent: u32, jobs: &mut Jobs)
         requires level { new.piece.level < 3 }
         requires range { new.piece.number * 512 ^ suc new.piece.level < 512 ^ 3 }
+        requires absent { frame_of self.old.tables new.piece.level new.piece.number ≡ None }
         requires fresh { IsFresh self.old new.frame }
         requires spare { 2 ≤ spare jobs.old }
         ensures tables { self.new ≡ record self.old { tables = with_table new self.old.tables } }
@@ -341,8 +342,9 @@ impl Tables {
             ≡ unmap_page (number_of 3 page) (changed self.old free jobs.old.pushed) }
         ensures room { jobs.new.room ≡ jobs.old.room }
 
-        // So the page is mapped no more, and no other page changes.
+        // So the page is mapped no more, no other page changes, and the topmost table stays.
         ensures unmapped { MapsTo 3 page None self.old self.new }
+        ensures root { root_of 2 self.new ≡ root_of 2 self.old }
         ensures taken { (free : List Bool) → HasTaken self.old free → HasTaken self.new free }
     {
         self.unmap_number(page & 0x7ff_ffff, jobs);
@@ -368,6 +370,7 @@ impl Tables {
         requires spare { 1 ≤ spare jobs.old }
         ensures next { (free : List Bool) → changed self.new free jobs.new.pushed
             ≡ reclaim (number_of 2 leaf) (changed self.old free jobs.old.pushed) }
+        ensures root { root_of 2 self.new ≡ root_of 2 self.old }
         ensures room { jobs.new.room ≡ jobs.old.room }
         ensures taken { (free : List Bool) → HasTaken self.old free → HasTaken self.new free }
     {
@@ -384,6 +387,7 @@ impl Tables {
     pub fn give_leaves(&mut self, frames: &mut Frames)
         requires taken { HasTaken self.old frames.old }
         ensures next { (jobs : List Job) → changed self.new frames.new jobs ≡ give_leaves (changed self.old frames.old jobs) }
+        ensures root { root_of 2 self.new ≡ root_of 2 self.old }
         ensures taken { HasTaken self.new frames.new }
     {
         give_all(&self.aside, frames);

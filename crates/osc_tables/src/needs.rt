@@ -3,6 +3,7 @@
 
 ghost use Rattle.std.specs.Prelude.{◌≡◌, ◌+◌, ◌<◌, ◌≤◌, ◌^◌};
 ghost use Rattle.osc_paging.specs.KeptTables.{missing, need};
+ghost use Rattle.osc_tables.specs.Inside.{InOrder};
 
 use crate::numbers::{piece_over, pieces_over};
 use crate::table_list::frame_of;
@@ -10,7 +11,8 @@ use osc_paging::TableFrame;
 
 /// How many of the tables of a level are not there, over so many pieces.
 fn missing(tables: &[TableFrame], level: u8, from: u64, count: u64) -> u64
-    requires { from + count < 2 ^ 64 }
+    requires order { InOrder tables.now }
+    requires range { from + count < 2 ^ 64 }
     ensures missing { result ≡ missing tables.now level from count }
     ensures few { result ≤ count }
 {
@@ -25,7 +27,8 @@ fn missing(tables: &[TableFrame], level: u8, from: u64, count: u64) -> u64
 
 /// The table frames that mapping so many pages newly takes, below a topmost table of this level.
 pub fn need_below(tables: &[TableFrame], top: u8, first: u64, count: u64) -> u64
-    requires { first + count ≤ 2 ^ 27 }
+    requires order { InOrder tables.now }
+    requires range { first + count ≤ 2 ^ 27 }
     ensures { result ≡ need tables.now top first count }
 {
     let mut total = 0;

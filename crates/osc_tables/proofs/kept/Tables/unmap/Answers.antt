@@ -3,7 +3,7 @@ use Rattle.std.proofs.Common.{◌≡◌, ◌∙◌, ◌%◌, ap, None}
 use Rattle.std.specs.Int.RustNames.{bit_and}
 use Rattle.std.proofs.lemmas.Nat.{and_mask}
 use Rattle.osc_sv39.specs.Walk.{number_of}
-use Rattle.osc_paging.specs.KeptTables.{KeptTables, mapping_at}
+use Rattle.osc_paging.specs.KeptTables.{KeptTables, mapping_at, root_of}
 use Rattle.osc_paging.proofs.TableLists.{mapping_at-without_page}
 use Rattle.osc_tables.proofs.Canonical.{maps_to, canonical_mapped}
 use Rattle.osc_tables.proofs.KeptChanges.{taken-pages}
@@ -19,3 +19,6 @@ returns-clause-unmapped c =
 
 pub returns-clause-taken : goal.returns-clause-taken
 returns-clause-taken c = λ free h. rw c.unmap_number.ensures.pages (taken-pages c.args.self.now free _ h)
+
+pub returns-clause-root : goal.returns-clause-root
+returns-clause-root c = ap (λ (t : KeptTables). root_of 2 t) c.unmap_number.ensures.pages
