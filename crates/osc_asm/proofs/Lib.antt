@@ -1,0 +1,9 @@
+pub mod Places
+pub mod Laying
+pub mod TwoParts
+pub mod Fields
+pub mod ReadBack
+pub mod Image
+pub mod Loading
+pub mod Targets
+pub mod Pages
