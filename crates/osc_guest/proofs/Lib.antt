@@ -1,0 +1,5 @@
+pub mod HartLaws
+pub mod WhoAsks
+pub mod Nearer
+pub mod Within
+pub mod Conditional

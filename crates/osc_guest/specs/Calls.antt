@@ -1,0 +1,28 @@
+-- Which environment call an ecall makes: the number stands in a7 and arguments in a0, a1 and a2, the
+-- registers x17, x10, x11 and x12. The numbers are this project's own.
+use Rattle.std.specs.Prelude.{ℕ, ◌==◌, List, if◌then◌else◌}
+use Rattle.osc_word.specs.declared.calls.Call.{Call}
+use Rattle.osc_word.specs.declared.calls.Call.TheVariants.{Exit, Write, Malloc, Free, Realloc, Fork, Spawn, Join, Done, Share, Wait, Unknown}
+use Rattle.osc_word.specs.Registers.{register}
+
+-- the register a0
+abbrev pub answer_register : ℕ
+answer_register = 10
+
+abbrev pub call_numbered : ℕ → ℕ → ℕ → ℕ → Call
+call_numbered number a0 a1 a2 =
+    if number == 1 then Exit a0
+    else if number == 2 then Write a0 a1
+    else if number == 3 then Malloc a0
+    else if number == 4 then Free a0
+    else if number == 5 then Realloc a0 a1
+    else if number == 6 then Fork
+    else if number == 7 then Spawn a0 a1 a2
+    else if number == 8 then Join a0
+    else if number == 9 then Done a0
+    else if number == 10 then Share a0
+    else if number == 11 then Wait a0
+    else Unknown number
+
+unfoldable pub call_of : List ℕ → Call
+call_of regs = call_numbered (register regs 17) (register regs 10) (register regs 11) (register regs 12)
