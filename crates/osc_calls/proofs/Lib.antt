@@ -1,0 +1,3 @@
+pub mod JobLawProofs
+pub mod CallLawProofs
+pub mod MarkLawProofs
