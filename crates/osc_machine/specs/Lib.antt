@@ -1,0 +1,15 @@
+pub mod Parts
+pub mod Turns
+pub mod Step
+pub mod Run
+pub mod Start
+pub mod Views
+pub mod Picks
+pub mod DeadPages
+pub mod Safe
+pub mod Replay
+pub mod Refusals
+pub mod Due
+pub mod Laws
+pub mod Rows
+pub mod Worked
