@@ -1,0 +1,6 @@
+-- The law is the lemma.
+use Rattle.osc_world.proofs.Choices.{goes-plainly}
+use Rattle.osc_world.proofs.laws.events.other_instructions_are_plain.Goals as goal
+
+pub returns : goal.returns
+returns c = goes-plainly

@@ -1,0 +1,17 @@
+pub use Rattle.osc_isa.specs.Integer
+pub use Rattle.osc_isa.specs.Atomic
+pub use Rattle.osc_image.specs.Image
+pub use Rattle.osc_slot.specs.Heap
+pub mod Values
+pub mod States
+pub mod World
+pub mod Operations
+pub mod Accesses
+pub mod Threads
+pub mod Instructions
+pub mod Calls
+pub mod Events
+pub mod Run
+pub mod PlainWorld
+pub mod PlainRun
+pub mod Examples

@@ -1,0 +1,45 @@
+-- The plain run: the fold over events with numbers alone, from the boot of an image. This project's own.
+use Rattle.std.specs.Prelude.{ℕ, ◌-◌, ◌%◌, ◌==◌, if◌then◌else◌, List, [], ◌∷◌, Option, Some, None}
+use Rattle.std.specs.Option.{option_and_then}
+use Rattle.osc_word.specs.declared.steps.Choice.{Choice}
+use Rattle.osc_word.specs.declared.steps.Event.{Event}
+use Rattle.osc_word.specs.declared.settings.Config.{Config}
+use Rattle.osc_rv.specs.Instr.{instr_of}
+use Rattle.osc_rv.specs.declared.instr.Instr.{Instr}
+use Rattle.osc_image.specs.Image.{Image, laid_byte}
+use Rattle.osc_slot.specs.Heap.{empty_heap}
+use Rattle.osc_world.specs.States.{turn_of, first_state}
+use Rattle.osc_world.specs.PlainWorld.{Flat, Plain, PlainTurn, plain_number, plain_does}
+
+-- the instruction at the hart's pc, which has to be divisible by 4
+abbrev pub plain_instr : PlainTurn → Option Instr
+plain_instr turn = if turn.hart.pc % 4 == 0 then instr_of (plain_number turn 4 turn.hart.pc) else None
+
+abbrev pub plain_meaning_in : Plain → Choice → Option PlainTurn → Option Plain
+plain_meaning_in plain c None = Some plain
+plain_meaning_in plain c (Some turn) = plain_does turn c (plain_instr turn)
+
+-- the state after an event; None where it is stuck
+unfoldable pub plain_meaning : Plain → Event → Option Plain
+plain_meaning plain event = plain_meaning_in plain event.choice (turn_of plain event.hart)
+
+-- once it is stuck, it stays so
+unfoldable pub plain_run : Option Plain → List Event → Option Plain
+plain_run plain [] = plain
+plain_run plain (event ∷ events) = plain_run (option_and_then (λ now. plain_meaning now event) plain) events
+
+-- the image's bytes, 0 everywhere else, and no held block
+abbrev pub flat_of : Image → ℕ → Flat
+flat_of image frames =
+    record {
+      bytes = (λ address. laid_byte image.segments address);
+      heap = empty_heap frames;
+      sizes = (λ user. 0);
+    }
+
+abbrev pub plain_boot : Image → Config → Plain
+plain_boot image config = first_state (λ n. n) (flat_of image config.frames) image.entry (config.harts - 1)
+
+-- the plain run of an image over events
+abbrev pub plain_run_of : Image → Config → List Event → Option Plain
+plain_run_of image config events = plain_run (Some (plain_boot image config)) events

@@ -1,0 +1,36 @@
+-- The world of objects: numbered memory and objects of each process. This project's own. A world has no
+-- page table, frame, cache, shadow or heap address.
+use Rattle.std.specs.Prelude.{ℕ, List, length}
+use Rattle.osc_sv39.specs.declared.flags.PteBits.{PteBits}
+use Rattle.osc_world.specs.declared.Value.{Value}
+use Rattle.osc_world.specs.declared.Byte.{Byte}
+use Rattle.osc_world.specs.States.{State, Turn}
+
+-- an object has a size as long as there are pointers to it, and bytes as long as it lives
+pub data Object : Type 0 where
+  Live : List Byte → Object
+  Dead : ℕ → Object
+
+-- a page of image or stack: its address divided by 4096, what it allows, and its 4096 bytes
+pub record Page : Type 0 where
+  pub number : ℕ
+  pub bits : PteBits
+  pub bytes : List Byte
+
+pub record Memory : Type 0 where
+  pub pages : List Page
+  pub objects : List Object
+
+abbrev pub World : Type 0
+World = State Value Byte Memory
+
+abbrev pub WorldTurn : Type 0
+WorldTurn = Turn Value Byte Memory
+
+abbrev pub size_of : Object → ℕ
+size_of (Live bytes) = length bytes
+size_of (Dead size) = size
+
+-- the object after its end
+abbrev pub killed : Object → Object
+killed object = Dead (size_of object)
