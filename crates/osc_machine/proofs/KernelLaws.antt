@@ -24,7 +24,7 @@ use Rattle.osc_guest.specs.Asks.{ask}
 use Rattle.osc_machine.specs.declared.HartAsk.{HartAsk}
 use Rattle.osc_machine.specs.declared.HartAsk.TheVariants as does
 use Rattle.osc_machine.specs.Parts.{Gate, CallPlace, Outside, TakingBoxes, FirstWord, SecondWord, Working, GivingBoxes, Returning, Return, HartState, State}
-use Rattle.osc_machine.specs.Turns.{HartTold, Box, Kernel, Word, Gate as ToldGate, OldVersion, Done, Turn, guest_ask, job_ask, ask_at, copied_entries, hart_told, gives, first_held, works, goes_on, begins, took_box, found_words, no_words, worked_on, call_told, told_with, outside_told, told_at, took_kernel as told_kernel}
+use Rattle.osc_machine.specs.Turns.{HartTold, Box, Kernel, Word, Gate as ToldGate, OldVersion, Done, Turn, guest_ask, job_ask, ask_at, copied_entries, hart_told, gives, first_held, works, goes_on, begins, took_box, found_words, no_words, worked_on, call_told, told_with, outside_told, told_at, took_kernel as told_kernel, shelved}
 use Rattle.osc_machine.specs.Step.{Stepped, stays, turned, with_box, with_gate, box_at, is_shut, is_wanted, altered_box, took_gate, acted, step_of, step}
 use Rattle.osc_machine.specs.Step as stepping
 use Rattle.osc_machine.specs.Run.{to_list}
@@ -350,7 +350,7 @@ take_moves s n h k asked (Some k0) e q a =
 
 -- ---- the kernel is given
 abbrev handed_of : Option KernelState → Option KernelState
-handed_of z = option_map (λ (y : KernelState). (finish y).kernel) z
+handed_of z = option_map (λ (y : KernelState). shelved (finish y).kernel) z
 
 record Emptied (x : HartState) : Type 0 where
   no_kernel : x.kernel ≡ None
@@ -370,13 +370,13 @@ give_moves s n h k return (Some k0) e i a =
     let o = only (to_list s.kernel) r.before r.after k0 k
     (sym (ap (λ z. to_list s.kernel ++ (r.before ++ (to_list z ++ r.after))) e) ∙ sym (ap (λ ks. to_list s.kernel ++ ks) r.now) ∙ a.has.one) in
     made _ k (record {
-      next = (finish k0).kernel;
+      next = shelved (finish k0).kernel;
       one = ap (λ z. to_list (handed_of z) ++ kernels_held (slice_set s.harts n x)) e
-          ∙ ap (λ ks. (finish k0).kernel ∷ ks) (r.later x
+          ∙ ap (λ ks. (shelved (finish k0).kernel) ∷ ks) (r.later x
           ∙ ap (λ z. r.before ++ (to_list z ++ r.after)) w.no_kernel
           ∙ ap (λ b. b ++ r.after) o.no_before ∙ o.no_after);
       all = agrees_set s.harts n x a.has.in_hand (ap is_some w.no_kernel ∙ sym (ap is_in_call w.outside));
-      moves = subst (λ z. Moves z (finish k0).kernel) o.same (Finishes refl);
+      moves = subst (λ z. Moves z (shelved (finish k0).kernel)) o.same (Finishes refl);
     })
 
 -- ---- each place

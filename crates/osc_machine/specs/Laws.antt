@@ -22,7 +22,7 @@ use Rattle.osc_calls.specs.MarkLaws.{KeepsMarks}
 use Rattle.osc_machine.specs.declared.HartAsk.{HartAsk}
 use Rattle.osc_machine.specs.declared.HartAsk.TheVariants as does
 use Rattle.osc_machine.specs.Parts.{Gate, CallPlace, Outside, TakingBoxes, FirstWord, SecondWord, Working, GivingBoxes, Returning, HartState, State}
-use Rattle.osc_machine.specs.Turns.{Busy, Done, goes, hart_ask, hart_told}
+use Rattle.osc_machine.specs.Turns.{Busy, Done, goes, hart_ask, hart_told, shelved}
 use Rattle.osc_machine.specs.Step.{stays, box_at, is_shut, step}
 use Rattle.osc_machine.specs.Run.{Ran, to_list, run_on, run}
 use Rattle.osc_machine.specs.Start.{started}
@@ -146,7 +146,7 @@ pub data Moves (old new : KernelState) : Type 0 where
   Begins : (hart : ℕ) (regs : List ℕ) (pc : ℕ) (asked : Request) → new ≡ (begin hart regs pc asked old).kernel → Moves old new
   Plans : (found : Found) → new ≡ plan found old → Moves old new
   EndsJob : (word : ℕ) → new ≡ job_done word old → Moves old new
-  Finishes : new ≡ (finish old).kernel → Moves old new
+  Finishes : new ≡ shelved (finish old).kernel → Moves old new
 
 -- the kernel after a step
 pub record KernelMoves (s : State) (k : KernelState) : Type 0 where

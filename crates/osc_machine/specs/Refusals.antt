@@ -7,9 +7,9 @@ use Rattle.osc_word.specs.declared.settings.HeapKind.{HeapKind}
 use Rattle.osc_word.specs.declared.settings.HeapKind.TheVariants.{Oscar, Plain}
 use Rattle.osc_word.specs.declared.calls.Entry.{Entry}
 use Rattle.osc_word.specs.declared.calls.Call.{Call}
-use Rattle.osc_word.specs.declared.calls.Call.TheVariants.{Malloc, Realloc, Fork, Share}
+use Rattle.osc_word.specs.declared.calls.Call.TheVariants.{Malloc, Realloc, Fork, Spawn, Share}
 use Rattle.osc_word.specs.declared.calls.Answer.{Answer}
-use Rattle.osc_word.specs.declared.calls.Answer.TheVariants.{NoShadow, NoFrames, NoHart, NoProcess, NoThread, Empty, DoubleFree, NotAnObject, HeaderDamaged}
+use Rattle.osc_word.specs.declared.calls.Answer.TheVariants.{Given, Moved, Placed, NoShadow, NoFrames, NoHart, NoProcess, NoThread, Empty, DoubleFree, NotAnObject, HeaderDamaged}
 use Rattle.osc_class.specs.declared.Room.{Room}
 use Rattle.osc_class.specs.Rooms.{room_of, shadow_pages}
 use Rattle.osc_image.specs.Image.{Image, pages}
@@ -142,7 +142,8 @@ unfoldable pub refusal : Setting → List Ledger → Ledger → Call → Option 
 refusal s ledgers l (Malloc size) = block_refusal s ledgers l (room_of size) (new_frames s l (room_of size))
 refusal s ledgers l (Realloc pointer size) =
     block_refusal s ledgers l (room_of size) (frames_from s l (old_block s.config.heap l pointer) (room_of size))
-refusal s ledgers l Fork = if nat_lt (unused s ledgers) (fork_frames s l) then Some NoFrames else None
+refusal s ledgers l Fork =
+    if nat_lt (length ledgers) s.config.processes && nat_lt (unused s ledgers) (fork_frames s l) then Some NoFrames else None
 refusal s ledgers l (Share pages) =
     if lacks_frames s ledgers l pages (first_shared_page + region_pages l.regions) pages then Some NoFrames else None
 refusal s ledgers l _ = None
@@ -154,20 +155,39 @@ want_in NoShadow = Some NoShadow
 want_in NoFrames = Some NoFrames
 want_in _ = None
 
--- an answer that comes before want is looked at
-abbrev pub is_other_refusal : Answer → Bool
-is_other_refusal NoHart = true
-is_other_refusal NoProcess = true
-is_other_refusal NoThread = true
-is_other_refusal Empty = true
-is_other_refusal (DoubleFree object call) = true
-is_other_refusal NotAnObject = true
-is_other_refusal (HeaderDamaged kept found) = true
-is_other_refusal _ = false
+-- an answer of a call that comes before want is looked at
+abbrev pub is_other_refusal : Call → Answer → Bool
+is_other_refusal Fork NoHart = true
+is_other_refusal Fork NoProcess = true
+is_other_refusal (Spawn pc sp arg) NoHart = true
+is_other_refusal (Spawn pc sp arg) NoThread = true
+is_other_refusal (Share pages) Empty = true
+is_other_refusal (Realloc pointer size) (DoubleFree object call) = true
+is_other_refusal (Realloc pointer size) NotAnObject = true
+is_other_refusal (Realloc pointer size) (HeaderDamaged kept found) = true
+is_other_refusal _ _ = false
 
--- a call of a journal is refused for want exactly where the rule says so
-abbrev pub RefusesForWant : Setting → List Entry → Type 0
-RefusesForWant s journal =
-    (i : ℕ) (entry : Entry) → slice_get journal i ≡ Some entry → is_other_refusal entry.answer ≡ false
-    → let ledgers = replay s.config (take i journal) in
-    want_in entry.answer ≡ refusal s ledgers (ledger_at ledgers entry.pid) entry.call
+-- malloc and realloc answer a pointer where they are not refused
+abbrev pub is_pointer : Answer → Bool
+is_pointer (Given object pointer) = true
+is_pointer (Moved old object pointer) = true
+is_pointer (Placed pointer) = true
+is_pointer _ = false
+
+abbrev pub AnswersPointer : Call → Answer → Type 0
+AnswersPointer (Malloc size) answer = is_pointer answer ≡ true
+AnswersPointer (Realloc pointer size) answer = is_pointer answer ≡ true
+AnswersPointer _ answer = Unit {0}
+
+abbrev pub refusal_of : Setting → List Ledger → Entry → Option Answer
+refusal_of s ledgers entry = refusal s ledgers (ledger_at ledgers entry.pid) entry.call
+
+-- a call of a journal is refused for want exactly where the rule says so, by what the journal before it
+-- tells; and malloc and realloc that are not refused give
+pub record RefusesForWant (s : Setting) (journal : List Entry) : Type 0 where
+  pub wants : (i : ℕ) (entry : Entry) → slice_get journal i ≡ Some entry
+      → is_other_refusal entry.call entry.answer ≡ false
+      → want_in entry.answer ≡ refusal_of s (replay s.config (take i journal)) entry
+  pub gives : (i : ℕ) (entry : Entry) → slice_get journal i ≡ Some entry
+      → is_other_refusal entry.call entry.answer ≡ false → want_in entry.answer ≡ None
+      → AnswersPointer entry.call entry.answer

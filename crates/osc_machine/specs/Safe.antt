@@ -45,10 +45,19 @@ abbrev pub own_box : Option HartState → Option BoxState
 own_box None = None
 own_box (Some h) = h.user.held
 
+abbrev pub own_kernel : Option HartState → Option KernelState
+own_kernel None = None
+own_kernel (Some h) = h.kernel
+
 -- a hart holds its box from one moment to another: both are of one instruction
 abbrev pub HoldsBox : State → List ℕ → ℕ → ℕ → ℕ → Type 0
 HoldsBox start picks hart from to =
     (i : ℕ) → from ≤ i → i ≤ to → IsSome (own_box (hart_at start picks hart i))
+
+-- a hart holds the kernel from one moment to another: both are of one call
+abbrev pub HoldsKernel : State → List ℕ → ℕ → ℕ → ℕ → Type 0
+HoldsKernel start picks hart from to =
+    (i : ℕ) → from ≤ i → i ≤ to → IsSome (own_kernel (hart_at start picks hart i))
 
 -- an action that stores no word and opens no gate
 abbrev pub IsNoStore : HartAsk → Type 0
@@ -129,8 +138,9 @@ pub record Safe (start : State) (picks : List ℕ) : Type 0 where
   pub faults : (i hart : ℕ) (done : Bool) → TouchesDead start picks i hart done → done ≡ false
   pub quiet : (i hart from to : ℕ) (done : Bool) → TouchesDead start picks i hart done
       → from ≤ i → i ≤ to → HoldsBox start picks hart from to → ChangesNothing start picks hart from to
-  pub unwritten : (i hart : ℕ) (done : Bool) → TouchesDead start picks i hart done
-      → output_of (state_at start picks (i + 1)) ≡ output_of (state_at start picks i)
+  pub unwritten : (i hart to : ℕ) (done : Bool) → TouchesDead start picks i hart done
+      → i ≤ to → HoldsKernel start picks hart i to
+      → output_of (state_at start picks (to + 1)) ≡ output_of (state_at start picks i)
   pub reported : (i cause address : ℕ) (report : Report) (grave : Grave) → Reports start picks i report
       → report.fault ≡ fault.Access cause address
       → grave_at (trace_at start picks i) report.pid (address / 4096) ≡ Some grave

@@ -263,6 +263,10 @@ handed_at _ h = handed h.user
 abbrev pub handed_box : HartState → BoxState
 handed_box h = handed_at h.place h
 
+-- the kernel at home keeps no label
+abbrev pub shelved : KernelState → KernelState
+shelved k = record k { label = None }
+
 -- the kernel that it gives, with the call finished
 abbrev pub handed_kernel : HartState → Option KernelState
-handed_kernel h = option_map (λ k. (finish k).kernel) h.kernel
+handed_kernel h = option_map (λ k. shelved (finish k).kernel) h.kernel

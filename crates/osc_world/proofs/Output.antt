@@ -1,6 +1,6 @@
 -- The output stays within its room.
 use Rattle.std.proofs.Common.{◌≡◌, ℕ, ◌+◌, ◌≤◌, ◌==◌, Bool, true, false, cond, List, [], ◌∷◌, ◌++◌, length, length-append, Option, Some, None, Result, Ok, Err, refl, arith, slice_get, zero, suc, take, drop, ◌%◌, ◌&&◌, subst, ◌*◌}
-use Rattle.std.specs.Prelude.{nat_lt, ok_or}
+use Rattle.std.specs.Prelude.{nat_lt, ok_or, ◌&&◌}
 use Rattle.osc_word.specs.declared.steps.Choice.{Choice}
 use Rattle.osc_word.specs.declared.steps.Choice.TheVariants as choice
 use Rattle.osc_word.specs.declared.steps.Event.{Event}
@@ -123,11 +123,15 @@ meaning-within (Err why) h = tt
 
 chosen-within : (turn : WorldTurn) (c : Choice) (width : Width) (rd : ℕ) (value : Value) (at : Place) → Fits turn → OfMeaning (chosen turn c width rd value at)
 unfolding OfMeaning Fits
-chosen-within turn choice.Success width rd value at h = by (is_reserved turn.hart.reservation at width)
+chosen-within turn choice.Success width rd value at h = errs (is_pointer value && is_shared at.area)
   where
     by : (b : Bool) → OfMeaning (cond b (meaning_of (succeeds turn width rd at value)) Unfit)
     by true = meaning-within (succeeds turn width rd at value) (stores_at-within turn at (width_of width) value (λ world. Ok (sets_reserved turn world rd (Num sc_success) None)) (λ w e. ok-within turn (sets_reserved turn w rd (Num sc_success) None) e h))
     by false = tt
+
+    errs : (b : Bool) → OfMeaning (cond b (Errs PointerShared) (cond (is_reserved turn.hart.reservation at width) (meaning_of (succeeds turn width rd at value)) Unfit))
+    errs true = tt
+    errs false = by (is_reserved turn.hart.reservation at width)
 chosen-within turn choice.Fail width rd value at h = h
 chosen-within turn choice.Plain width rd value at h = tt
 chosen-within turn choice.Given width rd value at h = tt

@@ -16,13 +16,14 @@ use Rattle.osc_isa.specs.Atomic.{width_of, widened, sc_success, sc_failure}
 use Rattle.osc_world.specs.declared.Value.{Value}
 use Rattle.osc_world.specs.declared.Value.TheVariants.{Num, Ptr}
 use Rattle.osc_world.specs.declared.ObjectWhy.{ObjectWhy}
-use Rattle.osc_world.specs.declared.ObjectWhy.TheVariants.{Trap, PointerUse}
+use Rattle.osc_world.specs.declared.ObjectWhy.TheVariants.{Trap, PointerUse, PointerShared}
 use Rattle.osc_world.specs.declared.Place.{Place}
 use Rattle.osc_world.specs.declared.Reservation.{Reservation}
+use Rattle.osc_world.specs.Values.{is_pointer}
 use Rattle.osc_world.specs.States.{value_in, goes_on, sets, sets_at, passes, with_value}
 use Rattle.osc_world.specs.World.{World, WorldTurn, Object}
 use Rattle.osc_world.specs.Operations.{is_amo_operand, amo_value}
-use Rattle.osc_world.specs.Accesses.{then_try, provided, reached, is_aligned, is_same_place, value_at, stores_at, is_storable}
+use Rattle.osc_world.specs.Accesses.{then_try, provided, reached, is_aligned, is_same_place, is_shared, value_at, stores_at, is_storable}
 
 -- what an event means: a world, or an error, or nothing, since it does not fit
 pub data Meaning : Type 0 where
@@ -138,10 +139,13 @@ succeeds turn width rd at value =
 abbrev pub fails : WorldTurn → ℕ → World
 fails turn rd = sets_reserved turn turn.state rd (Num sc_failure) None
 
--- a failure always fits; success fits only where the hart's reservation is still there
+-- a failure always fits; success fits only where the hart's reservation is still there. Every choice fits
+-- an error, and a pointer that would go into a shared region is one
 abbrev pub chosen : WorldTurn → Choice → Width → ℕ → Value → Place → Meaning
 chosen turn choice.Success width rd value at =
-    if is_reserved turn.hart.reservation at width then meaning_of (succeeds turn width rd at value) else Unfit
+    if is_pointer value && is_shared at.area then Errs PointerShared
+    else if is_reserved turn.hart.reservation at width then meaning_of (succeeds turn width rd at value)
+    else Unfit
 chosen turn choice.Fail width rd value at = Goes (fails turn rd)
 chosen turn _ width rd value at = Unfit
 

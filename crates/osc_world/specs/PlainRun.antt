@@ -1,5 +1,5 @@
 -- The plain run: the fold over events with numbers alone, from the boot of an image. This project's own.
-use Rattle.std.specs.Prelude.{ℕ, ◌-◌, ◌%◌, ◌==◌, if◌then◌else◌, List, [], ◌∷◌, Option, Some, None}
+use Rattle.std.specs.Prelude.{ℕ, ◌-◌, ◌%◌, ◌==◌, nat_lt, if◌then◌else◌, List, [], ◌∷◌, Option, Some, None}
 use Rattle.std.specs.Option.{option_and_then}
 use Rattle.osc_word.specs.declared.steps.Choice.{Choice}
 use Rattle.osc_word.specs.declared.steps.Event.{Event}
@@ -28,11 +28,11 @@ unfoldable pub plain_run : Option Plain → List Event → Option Plain
 plain_run plain [] = plain
 plain_run plain (event ∷ events) = plain_run (option_and_then (λ now. plain_meaning now event) plain) events
 
--- the image's bytes, 0 everywhere else, and no held block
+-- the bytes of the image, which ends below 4 GiB, 0 everywhere else, and no held block
 abbrev pub flat_of : Image → ℕ → Flat
 flat_of image frames =
     record {
-      bytes = (λ address. laid_byte image.segments address);
+      bytes = (λ address. if nat_lt address 0x100000000 then laid_byte image.segments address else 0);
       heap = empty_heap frames;
       sizes = (λ user. 0);
     }

@@ -1,6 +1,6 @@
 //! Laws of objects: which differ, which are dead, which can be freed, and what a new one holds.
 
-ghost use Rattle.std.specs.Prelude.{ℕ, ◌≡◌, ◌≢◌, ◌≤◌, ◌<◌, ◌+◌, ◌++◌, ◌-◌, min, Bool, true, false, [], ◌∷◌, List, take, drop, length, replicate, slice_get, Option, Some, None, Result, Err};
+ghost use Rattle.std.specs.Prelude.{ℕ, ◌≡◌, ◌≢◌, ◌≤◌, ◌<◌, ◌+◌, ◌++◌, ◌-◌, min, Bool, true, false, [], ◌∷◌, List, take, drop, length, replicate, slice_get, Option, Some, None, Result, Err, ◌&&◌};
 ghost use Rattle.osc_sv39.specs.declared.entries.Access.{Access};
 ghost use Rattle.osc_word.specs.declared.steps.Choice.TheVariants as choice;
 ghost use Rattle.osc_rv.specs.declared.instr.BranchKind.TheVariants.{Beq, Bne};
@@ -11,13 +11,14 @@ ghost use Rattle.osc_world.specs.declared.Value.{Value};
 ghost use Rattle.osc_world.specs.declared.Value.TheVariants.{Ptr};
 ghost use Rattle.osc_world.specs.declared.Byte.{Byte};
 ghost use Rattle.osc_world.specs.declared.Byte.TheVariants.{Number};
-ghost use Rattle.osc_world.specs.declared.ObjectWhy.TheVariants.{DeadObject, BadFree};
+ghost use Rattle.osc_world.specs.declared.ObjectWhy.TheVariants.{DeadObject, BadFree, PointerShared};
 ghost use Rattle.osc_world.specs.declared.Place.{Place};
+ghost use Rattle.osc_world.specs.Values.{is_pointer};
 ghost use Rattle.osc_world.specs.States.{Hart};
 ghost use Rattle.osc_world.specs.World.{WorldTurn, Object, Live, Dead};
 ghost use Rattle.osc_world.specs.Operations.{is_taken_for};
-ghost use Rattle.osc_world.specs.Accesses.{is_aligned, is_reserved_word, disturbed, overlaid};
-ghost use Rattle.osc_world.specs.Instructions.{loads, stores, chosen, Unfit, objects_of};
+ghost use Rattle.osc_world.specs.Accesses.{is_aligned, is_shared, is_reserved_word, disturbed, overlaid};
+ghost use Rattle.osc_world.specs.Instructions.{loads, stores, chosen, Errs, Unfit, objects_of};
 ghost use Rattle.osc_world.specs.Calls.{frees, resized, zeros, without_object};
 
 /// Pointers to two live objects, neither past its object's end, are different.
@@ -60,10 +61,13 @@ pub fn stores_end_reservations()
         → (disturbed pid at hart).reservation ≡ None }
 {}
 
-/// A store-conditional without a reservation can't succeed.
+/// A store-conditional without a reservation can't succeed: it does not fit, unless it would put a
+/// pointer into a shared region, which is an error.
 pub fn success_needs_a_reservation()
-    ensures { (turn : WorldTurn) (width : Width) (rd : ℕ) (value : Value) (at : Place) → turn.hart.reservation ≡ None
-        → chosen turn choice.Success width rd value at ≡ Unfit }
+    ensures fits { (turn : WorldTurn) (width : Width) (rd : ℕ) (value : Value) (at : Place) → turn.hart.reservation ≡ None
+        → (is_pointer value && is_shared at.area) ≡ false → chosen turn choice.Success width rd value at ≡ Unfit }
+    ensures errs { (turn : WorldTurn) (width : Width) (rd : ℕ) (value : Value) (at : Place)
+        → (is_pointer value && is_shared at.area) ≡ true → chosen turn choice.Success width rd value at ≡ Errs PointerShared }
 {}
 
 /// After its free an object is dead with its size, and every other one is as before.
