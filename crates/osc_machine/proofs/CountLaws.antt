@@ -1,5 +1,6 @@
 -- Counts: each event of a hart raises its count by one.
 use Rattle.std.proofs.Common.{ℕ, zero, suc, ◌≡◌, ◌≢◌, ◌+◌, ◌-◌, ◌^◌, ◌==◌, min, Bool, true, false, cond, if◌then◌else◌, Option, Some, None, List, [], ◌∷◌, ◌++◌, map, slice_get, slice_set, sum_by, arith, refl, sym, ap, subst, ◌∙◌}
+use Rattle.std.specs.Option.{option_to_list}
 use Rattle.std.proofs.lemmas.Bool.Decides.{nat_tests}
 use Rattle.std.proofs.lemmas.List.{append-nil}
 use Rattle.std.proofs.lemmas.List.Sums.{sum_by-append}
@@ -35,7 +36,7 @@ use Rattle.osc_machine.specs.Parts.{Gate, CallPlace, Outside, TakingBoxes, First
 use Rattle.osc_machine.specs.Turns.{HartTold, Box, Kernel, Word, Gate as ToldGate, Busy, OldVersion, Done, Turn, goes, hart_ask, hart_told, event_of, from_guest, first_held, gives, works, goes_on, planned, begins, took_kernel as told_kernel, found_words, no_words, worked_on, call_told, told_with, outside_told, told_at}
 use Rattle.osc_machine.specs.Step.{Stepped, stays, is_shut, is_wanted, box_at, altered_box, took_gate, acted, step_of, step}
 use Rattle.osc_machine.specs.Step as stepping
-use Rattle.osc_machine.specs.Run.{Ran, to_list, with_step, run_on}
+use Rattle.osc_machine.specs.Run.{Ran, with_step, run_on}
 use Rattle.osc_machine.specs.Start.{started, first_hart}
 use Rattle.osc_machine.specs.Views.{counted, retired}
 use Rattle.osc_machine.specs.Laws.{is_of, events_of, EventsCounted}
@@ -244,7 +245,7 @@ one-other n m e d own = grind (arith, nat_tests, own, d)
 capped-more : (a m : ℕ) → min (a + 1) m ≡ min (min a m + 1) m
 capped-more a m = omega arith
 
-events_more : (n : ℕ) (events : List Event) (o : Option Event) → IsOwn n o → counted (events_of n (events ++ to_list o)) ≡ after o (counted (events_of n events))
+events_more : (n : ℕ) (events : List Event) (o : Option Event) → IsOwn n o → counted (events_of n (events ++ option_to_list o)) ≡ after o (counted (events_of n events))
 events_more n events None own = ap (λ es. counted (events_of n es)) (append-nil events)
 events_more n events (Some e) own =
     ap counted (sum_by-append (λ (x : Event). cond (is_of n x) 1 0) events (e ∷ []) ∙ ap (λ z. events_of n events + z) (one-own n e own))
@@ -253,7 +254,7 @@ events_more n events (Some e) own =
 none-more : (a : ℕ) → a + 0 ≡ a
 none-more a = omega arith
 
-events_other : (n m : ℕ) (events : List Event) (o : Option Event) → m ≢ n → IsOwn n o → events_of m (events ++ to_list o) ≡ events_of m events
+events_other : (n m : ℕ) (events : List Event) (o : Option Event) → m ≢ n → IsOwn n o → events_of m (events ++ option_to_list o) ≡ events_of m events
 events_other n m events None d own = ap (events_of m) (append-nil events)
 events_other n m events (Some e) d own =
     sum_by-append (λ (x : Event). cond (is_of m x) 1 0) events (e ∷ []) ∙ ap (λ z. events_of m events + z) (one-other n m e d own)
@@ -290,7 +291,7 @@ abbrev AllRight : List Event → List HartState → Type 0
 AllRight events harts = (n : ℕ) (h : HartState) → slice_get harts n ≡ Some h → Right events n h
 
 right_now : (events : List Event) (p : ℕ) (h : HartState) (t : HartTold) (o : Option Event) → o ≡ (hart_told h t).event → Right events p h
-    → Right (events ++ to_list o) p (hart_told h t).hart
+    → Right (events ++ option_to_list o) p (hart_told h t).hart
 right_now events p h t o e r =
     let c = counts_at h.place h t in
     let own : IsOwn p o = subst (λ z. IsOwn p z) (sym e) (subst (λ z. IsOwn z (hart_told h t).event) r.number c.own) in record {
@@ -299,16 +300,16 @@ right_now events p h t o e r =
     }
 
 right_other : (events : List Event) (p m : ℕ) (h : HartState) (t : HartTold) (o : Option Event) (g : HartState) → o ≡ (hart_told h t).event → Right events p h → m ≢ p → Right events m g
-    → Right (events ++ to_list o) m g
+    → Right (events ++ option_to_list o) m g
 right_other events p m h t o g e r d q =
     let c = counts_at h.place h t in
     let own : IsOwn p o = subst (λ z. IsOwn p z) (sym e) (subst (λ z. IsOwn z (hart_told h t).event) r.number c.own) in
     record { number = q.number; count = q.count ∙ ap counted (sym (events_other p m events o d own)) }
 
 right_written : (events : List Event) (harts : List HartState) (p m : ℕ) (h : HartState) (t : HartTold) (o : Option Event) (g : HartState)
-    → o ≡ (hart_told h t).event → Right events p h → AllRight events harts → Written harts p (hart_told h t).hart m g → Right (events ++ to_list o) m g
+    → o ≡ (hart_told h t).event → Right events p h → AllRight events harts → Written harts p (hart_told h t).hart m g → Right (events ++ option_to_list o) m g
 right_written events harts p m h t o g e r all (Mine i f) =
-    subst (λ z. Right (events ++ to_list o) m z) f (subst (λ z. Right (events ++ to_list o) z (hart_told h t).hart) (sym i) (right_now events p h t o e r))
+    subst (λ z. Right (events ++ option_to_list o) m z) f (subst (λ z. Right (events ++ option_to_list o) z (hart_told h t).hart) (sym i) (right_now events p h t o e r))
 right_written events harts p m h t o g e r all (Old d f) = right_other events p m h t o g e r d (all m g f)
 
 right_turn : (ran : Ran) (p : ℕ) (h : HartState) (x : Stepped) → slice_get ran.state.harts p ≡ Some h → AllRight ran.commits ran.state.harts → Turning ran.state p h x

@@ -1,5 +1,6 @@
 -- The kernel is in one place, and what a step does to it.
 use Rattle.std.proofs.Common.{ℕ, zero, suc, ◌≡◌, ◌+◌, ◌==◌, Bool, true, false, if◌then◌else◌, Option, Some, None, is_some, List, [], ◌∷◌, ◌++◌, map, option_map, slice_get, slice_set, arith, refl, sym, ap, subst, ◌∙◌, append_assoc}
+use Rattle.std.specs.Option.{option_to_list, option_or}
 use Rattle.std.specs.List.{range_with_len}
 use Rattle.osc_word.specs.declared.calls.Request.{Request}
 use Rattle.osc_word.specs.declared.settings.Config.{Config}
@@ -27,9 +28,8 @@ use Rattle.osc_machine.specs.Parts.{Gate, CallPlace, Outside, TakingBoxes, First
 use Rattle.osc_machine.specs.Turns.{HartTold, Box, Kernel, Word, Gate as ToldGate, OldVersion, Done, Turn, guest_ask, job_ask, ask_at, copied_entries, hart_told, gives, first_held, works, goes_on, begins, took_box, found_words, no_words, worked_on, call_told, told_with, outside_told, told_at, took_kernel as told_kernel, shelved}
 use Rattle.osc_machine.specs.Step.{Stepped, stays, turned, with_box, with_gate, box_at, is_shut, is_wanted, altered_box, took_gate, acted, step_of, step}
 use Rattle.osc_machine.specs.Step as stepping
-use Rattle.osc_machine.specs.Run.{to_list}
 use Rattle.osc_machine.specs.Start.{first_hart}
-use Rattle.osc_machine.specs.Views.{or_else, held_kernel}
+use Rattle.osc_machine.specs.Views.{held_kernel}
 use Rattle.osc_machine.specs.Laws.{is_in_call, HandAgrees, kernels_held, kernels, HasKernel, Moves, Same, Begins, Plans, EndsJob, Finishes, KernelMoves, KernelStays, KernelSeen, StartHasKernel}
 
 -- ---- lists of one kernel
@@ -74,12 +74,12 @@ only (b ∷ home) before after k0 k e = absurd (let x : ⊥ = grind (arith, both
 record Around (harts : List HartState) (n : ℕ) (h : HartState) : Type 0 where
   before : List KernelState
   after : List KernelState
-  now : kernels_held harts ≡ before ++ (to_list h.kernel ++ after)
-  later : (x : HartState) → kernels_held (slice_set harts n x) ≡ before ++ (to_list x.kernel ++ after)
+  now : kernels_held harts ≡ before ++ (option_to_list h.kernel ++ after)
+  later : (x : HartState) → kernels_held (slice_set harts n x) ≡ before ++ (option_to_list x.kernel ++ after)
 
 abbrev hand_of : Option HartState → List KernelState
 hand_of None = []
-hand_of (Some h) = to_list h.kernel
+hand_of (Some h) = option_to_list h.kernel
 
 around : (harts : List HartState) (n : ℕ) (h : HartState) → slice_get harts n ≡ Some h → Around harts n h
 around [] n h e = absurd (let x : ⊥ = grind (arith, e) in x)
@@ -91,10 +91,10 @@ around (y ∷ harts) zero h e = record {
 }
 around (y ∷ harts) (suc n) h e =
     let a = around harts n h e in record {
-      before = to_list y.kernel ++ a.before;
+      before = option_to_list y.kernel ++ a.before;
       after = a.after;
-      now = ap (λ ks. to_list y.kernel ++ ks) a.now ∙ sym (append_assoc (to_list y.kernel) a.before (to_list h.kernel ++ a.after));
-      later = λ x. ap (λ ks. to_list y.kernel ++ ks) (a.later x) ∙ sym (append_assoc (to_list y.kernel) a.before (to_list x.kernel ++ a.after));
+      now = ap (λ ks. option_to_list y.kernel ++ ks) a.now ∙ sym (append_assoc (option_to_list y.kernel) a.before (option_to_list h.kernel ++ a.after));
+      later = λ x. ap (λ ks. option_to_list y.kernel ++ ks) (a.later x) ∙ sym (append_assoc (option_to_list y.kernel) a.before (option_to_list x.kernel ++ a.after));
     }
 
 -- ---- what is in each hand
@@ -219,29 +219,29 @@ hart_turned p h t e agrees u = subst (λ q. Turned h.kernel (told_at q h t).hart
 -- ---- the whole state, where one hart turns
 record KernelNext (home : Option KernelState) (harts : List HartState) (k : KernelState) : Type 0 where
   next : KernelState
-  one : to_list home ++ kernels_held harts ≡ next ∷ []
+  one : option_to_list home ++ kernels_held harts ≡ next ∷ []
   all : AllAgree harts
   moves : Moves k next
 
-next_in : (o now : Option KernelState) (home before after : List KernelState) (k : KernelState) → Follows o now → home ++ (before ++ (to_list o ++ after)) ≡ k ∷ []
-    → (next : KernelState) × (home ++ (before ++ (to_list now ++ after)) ≡ next ∷ []) × Moves k next
-next_in None now home before after k f e = (k, ap (λ x. home ++ (before ++ (to_list x ++ after))) f ∙ e, Same refl)
+next_in : (o now : Option KernelState) (home before after : List KernelState) (k : KernelState) → Follows o now → home ++ (before ++ (option_to_list o ++ after)) ≡ k ∷ []
+    → (next : KernelState) × (home ++ (before ++ (option_to_list now ++ after)) ≡ next ∷ []) × Moves k next
+next_in None now home before after k f e = (k, ap (λ x. home ++ (before ++ (option_to_list x ++ after))) f ∙ e, Same refl)
 next_in (Some k0) now home before after k f e =
     let o = only home before after k0 k e in (
       f.0,
-      ap (λ x. home ++ (before ++ (to_list x ++ after))) f.1 ∙ ap (λ a. a ++ (before ++ (f.0 ∷ [] ++ after))) o.no_home
+      ap (λ x. home ++ (before ++ (option_to_list x ++ after))) f.1 ∙ ap (λ a. a ++ (before ++ (f.0 ∷ [] ++ after))) o.no_home
           ∙ ap (λ b. b ++ (f.0 ∷ [] ++ after)) o.no_before ∙ ap (λ c. f.0 ∷ [] ++ c) o.no_after,
       subst (λ x. Moves x f.0) o.same f.2,
     )
 
 -- the hart turns with its hand
 own_turns : (home : Option KernelState) (harts : List HartState) (n : ℕ) (h x : HartState) (k : KernelState) → slice_get harts n ≡ Some h → AllAgree harts
-    → to_list home ++ kernels_held harts ≡ k ∷ [] → Turned h.kernel x → KernelNext home (slice_set harts n x) k
+    → option_to_list home ++ kernels_held harts ≡ k ∷ [] → Turned h.kernel x → KernelNext home (slice_set harts n x) k
 own_turns home harts n h x k e all one t =
     let a = around harts n h e in
-    let next = next_in h.kernel x.kernel (to_list home) a.before a.after k t.follows (sym (ap (λ ks. to_list home ++ ks) a.now) ∙ one) in record {
+    let next = next_in h.kernel x.kernel (option_to_list home) a.before a.after k t.follows (sym (ap (λ ks. option_to_list home ++ ks) a.now) ∙ one) in record {
       next = next.0;
-      one = ap (λ ks. to_list home ++ ks) (a.later x) ∙ next.1;
+      one = ap (λ ks. option_to_list home ++ ks) (a.later x) ∙ next.1;
       all = agrees_set harts n x all t.agrees;
       moves = next.2;
     }
@@ -315,11 +315,11 @@ no_hand None e = refl
 no_hand (Some k) e = absurd (let x : ⊥ = grind (arith, e) in x)
 
 takes_list : (before after : List KernelState) (k0 k next : KernelState) (mine now : Option KernelState) → mine ≡ None → now ≡ Some next
-    → (k0 ∷ []) ++ (before ++ (to_list mine ++ after)) ≡ k ∷ [] → (before ++ (to_list now ++ after) ≡ next ∷ []) × (k0 ≡ k)
+    → (k0 ∷ []) ++ (before ++ (option_to_list mine ++ after)) ≡ k ∷ [] → (before ++ (option_to_list now ++ after) ≡ next ∷ []) × (k0 ≡ k)
 takes_list before after k0 k next mine now m w e =
-    let listed : k0 ∷ (before ++ after) ≡ k ∷ [] = sym (ap (λ x. k0 ∷ (before ++ (to_list x ++ after))) m) ∙ e in
+    let listed : k0 ∷ (before ++ after) ≡ k ∷ [] = sym (ap (λ x. k0 ∷ (before ++ (option_to_list x ++ after))) m) ∙ e in
     let none = both_empty before after (ap tail_of listed) in (
-      ap (λ x. before ++ (to_list x ++ after)) w ∙ ap (λ b. b ++ (next ∷ after)) none.first ∙ ap (λ c. next ∷ c) none.second,
+      ap (λ x. before ++ (option_to_list x ++ after)) w ∙ ap (λ b. b ++ (next ∷ after)) none.first ∙ ap (λ c. next ∷ c) none.second,
       ap (or_first k) listed,
     )
 
@@ -340,7 +340,7 @@ take_moves s n h k asked (Some k0) e q a =
     let r = around s.harts n h a.here in
     let mine = no_hand h.kernel (agrees_at s n h k Outside a ∙ ap is_in_call a.place) in
     let both = takes_list r.before r.after k0 k next h.kernel x.kernel mine w.kernel
-    (sym (ap (λ z. to_list z ++ (r.before ++ (to_list h.kernel ++ r.after))) e) ∙ sym (ap (λ ks. to_list s.kernel ++ ks) r.now) ∙ a.has.one) in
+    (sym (ap (λ z. option_to_list z ++ (r.before ++ (option_to_list h.kernel ++ r.after))) e) ∙ sym (ap (λ ks. option_to_list s.kernel ++ ks) r.now) ∙ a.has.one) in
     made _ k (record {
       next = next;
       one = r.later x ∙ both.0;
@@ -367,13 +367,13 @@ give_moves s n h k return (Some k0) e i a =
     let x = (hart_told h Done).hart in
     let w = gave_hand h return a.place in
     let r = around s.harts n h a.here in
-    let o = only (to_list s.kernel) r.before r.after k0 k
-    (sym (ap (λ z. to_list s.kernel ++ (r.before ++ (to_list z ++ r.after))) e) ∙ sym (ap (λ ks. to_list s.kernel ++ ks) r.now) ∙ a.has.one) in
+    let o = only (option_to_list s.kernel) r.before r.after k0 k
+    (sym (ap (λ z. option_to_list s.kernel ++ (r.before ++ (option_to_list z ++ r.after))) e) ∙ sym (ap (λ ks. option_to_list s.kernel ++ ks) r.now) ∙ a.has.one) in
     made _ k (record {
       next = shelved (finish k0).kernel;
-      one = ap (λ z. to_list (handed_of z) ++ kernels_held (slice_set s.harts n x)) e
+      one = ap (λ z. option_to_list (handed_of z) ++ kernels_held (slice_set s.harts n x)) e
           ∙ ap (λ ks. (shelved (finish k0).kernel) ∷ ks) (r.later x
-          ∙ ap (λ z. r.before ++ (to_list z ++ r.after)) w.no_kernel
+          ∙ ap (λ z. r.before ++ (option_to_list z ++ r.after)) w.no_kernel
           ∙ ap (λ b. b ++ r.after) o.no_before ∙ o.no_after);
       all = agrees_set s.harts n x a.has.in_hand (ap is_some w.no_kernel ∙ sym (ap is_in_call w.outside));
       moves = subst (λ z. Moves z (shelved (finish k0).kernel)) o.same (Finishes refl);
@@ -414,18 +414,18 @@ pub kernel_stays : KernelStays
 kernel_stays s n k has = step_moves s n k (slice_get s.harts n) refl has
 
 -- ---- the kernel that is seen
-head_or : (o : Option KernelState) (ks : List KernelState) → head_of (to_list o ++ ks) ≡ or_else o (head_of ks)
+head_or : (o : Option KernelState) (ks : List KernelState) → head_of (option_to_list o ++ ks) ≡ option_or o (head_of ks)
 head_or None [] = refl
 head_or None (k ∷ ks) = refl
 head_or (Some k) ks = refl
 
 head_held : (harts : List HartState) → head_of (kernels_held harts) ≡ held_kernel harts
 head_held [] = refl
-head_held (h ∷ harts) = head_or h.kernel (kernels_held harts) ∙ ap (or_else h.kernel) (head_held harts)
+head_held (h ∷ harts) = head_or h.kernel (kernels_held harts) ∙ ap (option_or h.kernel) (head_held harts)
 
 pub kernel_seen : KernelSeen
 kernel_seen s k has =
-    sym (head_or s.kernel (kernels_held s.harts) ∙ ap (or_else s.kernel) (head_held s.harts)) ∙ one_head (kernels s) k has.one
+    sym (head_or s.kernel (kernels_held s.harts) ∙ ap (option_or s.kernel) (head_held s.harts)) ∙ one_head (kernels s) k has.one
 
 -- ---- the start
 started_hands : (config : Config) (start : Start) (numbers : List ℕ) → kernels_held (map (first_hart config start) numbers) ≡ []

@@ -1,8 +1,9 @@
 -- How runs go on.
 use Rattle.std.proofs.Common.{ℕ, ◌≡◌, List, [], ◌∷◌, ◌++◌, refl, sym, ap, ◌∙◌, append_assoc}
+use Rattle.std.specs.Option.{option_to_list}
 use Rattle.std.proofs.lemmas.List.{append-nil}
 use Rattle.osc_machine.specs.Step.{step}
-use Rattle.osc_machine.specs.Run.{Ran, to_list, with_step, run_on, run}
+use Rattle.osc_machine.specs.Run.{Ran, with_step, run_on, run}
 use Rattle.osc_machine.specs.Laws.{RunsJoin, BeginsWith, RunsBegin}
 
 pub runs_join : RunsJoin
@@ -24,8 +25,8 @@ run_grows [] ran = record { trace = ([], sym (append-nil ran.trace)); commits = 
 run_grows (y ∷ ys) ran =
     let x = step ran.state y in
     let g = run_grows ys (with_step ran x) in record {
-      trace = begins_with _ ran.trace (to_list x.label) g.trace.0 g.trace.1;
-      commits = begins_with _ ran.commits (to_list x.event) g.commits.0 g.commits.1;
+      trace = begins_with _ ran.trace (option_to_list x.label) g.trace.0 g.trace.1;
+      commits = begins_with _ ran.commits (option_to_list x.event) g.commits.0 g.commits.1;
     }
 
 pub runs_begin : RunsBegin

@@ -1,6 +1,7 @@
 -- The laws of the machine: when a step stays, what it leaves alone, how runs go on, and that the kernel is
 -- in one place and its marks never fall.
 use Rattle.std.specs.Prelude.{ℕ, ◌+◌, ◌≡◌, ◌≢◌, Bool, true, false, Option, Some, None, is_some, List, [], ◌∷◌, ◌++◌, length, slice_get, slice_set, count_by, ◌==◌}
+use Rattle.std.specs.Option.{option_to_list}
 use Rattle.osc_word.specs.declared.calls.Request.{Request}
 use Rattle.osc_word.specs.declared.calls.Entry.{Entry}
 use Rattle.osc_word.specs.declared.calls.Answer.{Answer}
@@ -24,7 +25,7 @@ use Rattle.osc_machine.specs.declared.HartAsk.TheVariants as does
 use Rattle.osc_machine.specs.Parts.{Gate, CallPlace, Outside, TakingBoxes, FirstWord, SecondWord, Working, GivingBoxes, Returning, HartState, State}
 use Rattle.osc_machine.specs.Turns.{Busy, Done, goes, hart_ask, hart_told, shelved}
 use Rattle.osc_machine.specs.Step.{stays, box_at, is_shut, step}
-use Rattle.osc_machine.specs.Run.{Ran, to_list, run_on, run}
+use Rattle.osc_machine.specs.Run.{Ran, run_on, run}
 use Rattle.osc_machine.specs.Start.{started}
 use Rattle.osc_machine.specs.Views.{kernel_of, counted, retired}
 use Rattle.osc_machine.specs.Replay.{Ledger, entered, entered_from}
@@ -130,10 +131,10 @@ RunsBegin = (s : State) (xs ys : List ℕ) → RunBegins s xs ys
 -- all kernels: at home, and in each hart's hand
 abbrev pub kernels_held : List HartState → List KernelState
 kernels_held [] = []
-kernels_held (h ∷ harts) = to_list h.kernel ++ kernels_held harts
+kernels_held (h ∷ harts) = option_to_list h.kernel ++ kernels_held harts
 
 abbrev pub kernels : State → List KernelState
-kernels s = to_list s.kernel ++ kernels_held s.harts
+kernels s = option_to_list s.kernel ++ kernels_held s.harts
 
 -- the kernel is in one place, and a hart has it exactly while it is in a call
 pub record HasKernel (s : State) (k : KernelState) : Type 0 where

@@ -1,6 +1,7 @@
 -- Runs of the machine: one hart after another makes a step, in the order of a list of picks. This
 -- project's own.
-use Rattle.std.specs.Prelude.{ℕ, List, [], ◌∷◌, ◌++◌, Option, Some, None, take}
+use Rattle.std.specs.Prelude.{ℕ, List, [], ◌∷◌, ◌++◌, take}
+use Rattle.std.specs.Option.{option_to_list}
 use Rattle.osc_word.specs.declared.steps.Event.{Event}
 use Rattle.osc_word.specs.declared.steps.Label.{Label}
 use Rattle.osc_machine.specs.Parts.{State}
@@ -13,15 +14,11 @@ pub record Ran : Type 0 where
   pub commits : List Event
   pub trace : List Label
 
-abbrev pub to_list : {X : Type 0} → Option X → List X
-to_list None = []
-to_list (Some x) = x ∷ []
-
 abbrev pub with_step : Ran → Stepped → Ran
 with_step ran stepped = record {
   state = stepped.state;
-  commits = ran.commits ++ to_list stepped.event;
-  trace = ran.trace ++ to_list stepped.label;
+  commits = ran.commits ++ option_to_list stepped.event;
+  trace = ran.trace ++ option_to_list stepped.label;
 }
 
 -- on from where a run stands, over a list of picks

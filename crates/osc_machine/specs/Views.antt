@@ -1,7 +1,7 @@
 -- What a state shows of its run: the kernel, wherever it is, and with it the output, the reports, the
 -- journal and how process 0 ended; and the numbers of the summary. This project's own.
 use Rattle.std.specs.Prelude.{ℕ, ◌+◌, ◌-◌, ◌^◌, min, Bool, true, false, ◌==◌, if◌then◌else◌, Option, Some, None, List, [], ◌∷◌, length, sum_by, option_map}
-use Rattle.std.specs.Option.{option_map_or}
+use Rattle.std.specs.Option.{option_map_or, option_or}
 use Rattle.osc_word.specs.declared.calls.Entry.{Entry}
 use Rattle.osc_word.specs.declared.calls.Resume.{Resume}
 use Rattle.osc_word.specs.declared.calls.Resume.TheVariants.{Again}
@@ -18,18 +18,14 @@ use Rattle.osc_machine.specs.declared.Ending.{Ending}
 use Rattle.osc_machine.specs.declared.Ending.TheVariants.{Exit, Fault}
 use Rattle.osc_machine.specs.Parts.{CallPlace, Returning, HartState, State}
 
-abbrev pub or_else : Option KernelState → Option KernelState → Option KernelState
-or_else (Some k) other = Some k
-or_else None other = other
-
 -- the kernel that one of the harts holds
 abbrev pub held_kernel : List HartState → Option KernelState
 held_kernel [] = None
-held_kernel (h ∷ harts) = or_else h.kernel (held_kernel harts)
+held_kernel (h ∷ harts) = option_or h.kernel (held_kernel harts)
 
 -- the kernel, at home or in a hart's hand
 abbrev pub kernel_of : State → Option KernelState
-kernel_of s = or_else s.kernel (held_kernel s.harts)
+kernel_of s = option_or s.kernel (held_kernel s.harts)
 
 abbrev pub output_of : State → List ℕ
 output_of s = option_map_or (λ (k : KernelState). k.output) (kernel_of s) []
