@@ -1,5 +1,22 @@
 //! What harts ask of the kernel, what they are answered, and what the journal keeps.
 
+ghost use Rattle.std.specs.Prelude.{◌≡◌};
+ghost use Rattle.osc_word.specs.Environment.{call_of};
+
+use crate::register_file::Regs;
+
+/// The bytes that the output of all processes holds: 4 MiB.
+pub const OUTPUT_LIMIT: u32 = 4_194_304;
+
+/// The threads that are ever spawned.
+pub const THREAD_LIMIT: u32 = 4096;
+
+/// What many refusals answer.
+pub const MINUS_ONE: u64 = u64::MAX;
+
+/// The register a0, in which an answer comes.
+pub const ANSWER_REGISTER: u8 = 10;
+
 /// Why a process ends without being asked to.
 #[derive(Clone, Copy, Debug, PartialEq, Eq)]
 pub enum Fault {
@@ -47,6 +64,39 @@ pub enum Call {
     Wait(u64),
     Unknown(u64),
     End(Fault),
+}
+
+impl Call {
+    /// The environment call of an ecall with these registers: its number stands in a7, and its
+    /// arguments in a0, a1 and a2.
+    #[tactic(auto, unfolding(crate::specs::Environment::call_of))]
+    pub fn of(regs: &Regs) -> Call
+        ensures { result ≡ call_of regs.now }
+    {
+        let number = regs.get(17);
+        let [a0, a1, a2] = [regs.get(10), regs.get(11), regs.get(12)];
+        match number {
+            1 => Call::Exit(a0),
+            2 => Call::Write { buf: a0, len: a1 },
+            3 => Call::Malloc(a0),
+            4 => Call::Free(a0),
+            5 => Call::Realloc {
+                pointer: a0,
+                size: a1,
+            },
+            6 => Call::Fork,
+            7 => Call::Spawn {
+                pc: a0,
+                sp: a1,
+                arg: a2,
+            },
+            8 => Call::Join(a0),
+            9 => Call::Done(a0),
+            10 => Call::Share(a0),
+            11 => Call::Wait(a0),
+            _ => Call::Unknown(number),
+        }
+    }
 }
 
 /// Why a hart takes the kernel.

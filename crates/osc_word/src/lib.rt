@@ -1,22 +1,29 @@
 //! The words that all layers of the machine share: the configuration, the registers of a hart, the
 //! jobs that the kernel leaves to be done on memory, calls with their answers, orders to harts, and
-//! what a run tells of its steps. Plain data, but for three small types: `Config` is checked
-//! against the limits, `Regs` keeps x0 at 0, and `Jobs` is the list of what was pushed.
+//! what a run tells of its steps. Plain data, but for four small types: `Config` is checked
+//! against the limits, `Regs` keeps x0 at 0, and `Jobs` and `Waiting` are lists of what was pushed.
+//! The address map and the numbers of the environment calls stand in `specs/`.
 #![tactic(auto)]
 
+pub mod address_map;
 mod calls;
 mod job_list;
 mod orders;
 mod register_file;
 mod settings;
 mod steps;
+mod waiting;
 
-pub use calls::{Answer, Call, Entry, Fault, Request, Resume};
+pub use calls::{
+    ANSWER_REGISTER, Answer, Call, Entry, Fault, MINUS_ONE, OUTPUT_LIMIT, Request, Resume,
+    THREAD_LIMIT,
+};
 pub use job_list::{Job, Jobs, WordAt};
 pub use orders::{Order, Start};
 pub use register_file::Regs;
 pub use settings::{Config, ConfigFault, HeapKind};
 pub use steps::{Access, Choice, Event, Label};
+pub use waiting::Waiting;
 
 /// The number of a frame of memory, which has 4096 bytes.
 pub type Frame = u32;

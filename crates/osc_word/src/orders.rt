@@ -10,6 +10,10 @@ pub struct Start {
     pub root: u32,
     pub regs: Regs,
     pub pc: u64,
+    /// Levels of the process's page tables, 3 or 4.
+    pub levels: u8,
+    /// The frames of the machine: a page table that names another is none.
+    pub frames: u32,
 }
 
 /// An order to a hart.

@@ -24,10 +24,14 @@ pub struct Config {
     pub processes: u32,
     /// Frames of memory, 64 to 4096.
     pub frames: u32,
-    /// Shadow pages of each process, 1 to 262144.
+    /// Shadow pages of each process, 1 to 1048576.
     pub shadows: u32,
     /// Calls that the journal holds, 1 to 1048576.
     pub journal: u32,
+    /// Levels of page tables: 3 as in Sv39, or 4 as in Sv48.
+    pub levels: u8,
+    /// How many freed objects of a process wait at most for being let go together, 1 to 64.
+    pub batch: u32,
 }
 
 /// The first number of a configuration that is out of its range.
@@ -39,10 +43,14 @@ pub enum ConfigFault {
     Processes,
     #[error("frames are not 64 to 4096")]
     Frames,
-    #[error("shadow pages are not 1 to 262144")]
+    #[error("shadow pages are not 1 to 1048576")]
     Shadows,
     #[error("journal entries are not 1 to 1048576")]
     Journal,
+    #[error("levels are not 3 or 4")]
+    Levels,
+    #[error("a batch is not 1 to 64")]
+    Batch,
 }
 
 impl Config {
@@ -61,11 +69,17 @@ impl Config {
         if !matches!(self.frames, 64..=4096) {
             return Err(ConfigFault::Frames);
         }
-        if !matches!(self.shadows, 1..=262_144) {
+        if !matches!(self.shadows, 1..=1_048_576) {
             return Err(ConfigFault::Shadows);
         }
         if !matches!(self.journal, 1..=1_048_576) {
             return Err(ConfigFault::Journal);
+        }
+        if !matches!(self.levels, 3..=4) {
+            return Err(ConfigFault::Levels);
+        }
+        if !matches!(self.batch, 1..=64) {
+            return Err(ConfigFault::Batch);
         }
         Ok(())
     }

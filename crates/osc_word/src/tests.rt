@@ -1,4 +1,4 @@
-use crate::{Config, ConfigFault, HeapKind, Job, Jobs, Regs, WordAt};
+use crate::{Call, Config, ConfigFault, HeapKind, Job, Jobs, Regs, Waiting, WordAt};
 use std::test::Fail;
 
 fn config() -> Config {
@@ -9,6 +9,8 @@ fn config() -> Config {
         frames: 1024,
         shadows: 65536,
         journal: 65536,
+        levels: 3,
+        batch: 1,
     }
 }
 
@@ -26,8 +28,10 @@ fn limits(rt: HostRuntime) {
         harts: 8,
         processes: 64,
         frames: 4096,
-        shadows: 262_144,
+        shadows: 1_048_576,
         journal: 1_048_576,
+        levels: 4,
+        batch: 64,
         ..config()
     };
     for good in [config(), least, most] {
@@ -89,7 +93,7 @@ fn limits(rt: HostRuntime) {
         ),
         (
             Config {
-                shadows: 262_145,
+                shadows: 1_048_577,
                 ..config()
             },
             ConfigFault::Shadows,
@@ -104,9 +108,39 @@ fn limits(rt: HostRuntime) {
         (
             Config {
                 journal: 1_048_577,
+                levels: 2,
                 ..config()
             },
             ConfigFault::Journal,
+        ),
+        (
+            Config {
+                levels: 2,
+                batch: 0,
+                ..config()
+            },
+            ConfigFault::Levels,
+        ),
+        (
+            Config {
+                levels: 5,
+                ..config()
+            },
+            ConfigFault::Levels,
+        ),
+        (
+            Config {
+                batch: 0,
+                ..config()
+            },
+            ConfigFault::Batch,
+        ),
+        (
+            Config {
+                batch: 65,
+                ..config()
+            },
+            ConfigFault::Batch,
         ),
     ] {
         assert_eq!(rt; bad.check(), Err(fault));
@@ -144,4 +178,60 @@ fn jobs_in_order(rt: HostRuntime) -> Result<(), Fail> {
     assert_eq!(rt; jobs.spare(), 2);
     assert_eq!(rt; jobs.get(0), None);
     Ok(())
+}
+
+#[test]
+fn waiting_in_order(rt: HostRuntime) {
+    let mut waiting = Waiting::new();
+    assert_eq!(rt; waiting.count(), 0);
+    for object in 0..64 {
+        waiting.push(object * 3);
+    }
+    assert_eq!(rt; waiting.count(), 64);
+    assert_eq!(rt; waiting.objects()[0], 0);
+    assert_eq!(rt; waiting.objects()[63], 189);
+    waiting.clear();
+    assert_eq!(rt; waiting.count(), 0);
+    waiting.push(7);
+    assert_eq!(rt; waiting.objects().first(), Some(&7));
+}
+
+#[test]
+fn calls(rt: HostRuntime) {
+    let mut regs = Regs::new();
+    for (register, value) in [(10, 100), (11, 200), (12, 300)] {
+        regs.set(register, value);
+    }
+    for (number, call) in [
+        (0, Call::Unknown(0)),
+        (1, Call::Exit(100)),
+        (2, Call::Write { buf: 100, len: 200 }),
+        (3, Call::Malloc(100)),
+        (4, Call::Free(100)),
+        (
+            5,
+            Call::Realloc {
+                pointer: 100,
+                size: 200,
+            },
+        ),
+        (6, Call::Fork),
+        (
+            7,
+            Call::Spawn {
+                pc: 100,
+                sp: 200,
+                arg: 300,
+            },
+        ),
+        (8, Call::Join(100)),
+        (9, Call::Done(100)),
+        (10, Call::Share(100)),
+        (11, Call::Wait(100)),
+        (12, Call::Unknown(12)),
+        (u64::MAX, Call::Unknown(u64::MAX)),
+    ] {
+        regs.set(17, number);
+        assert_eq!(rt; Call::of(&regs), call);
+    }
 }
