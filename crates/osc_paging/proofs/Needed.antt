@@ -5,10 +5,11 @@ use Rattle.std.proofs.lemmas.List.Sums.{sum_by-cons}
 use Rattle.osc_sv39.specs.declared.entries.Mapping.{Mapping}
 use Rattle.osc_sv39.specs.Walk.{piece}
 use Rattle.osc_paging.specs.declared.TableFrame.{TableFrame}
-use Rattle.osc_paging.specs.KeptTables.{frame_of, mapping_at, lack, missing, need, pieces_over}
+use Rattle.osc_paging.specs.KeptTables.{root_of, levels_of, frame_of, mapping_at, lack, missing, need, need_below, pieces_over}
 use Rattle.osc_paging.specs.TableChanges.{Changed, with_table, linked, link, link_all, leaf_put, map_page, map_pages}
 use Rattle.osc_paging.specs.TableLaws.{free_frames, MapsPage}
 use Rattle.osc_paging.proofs.TableLists.{mapping_at-with_page, frame_of-with_table}
+use Rattle.osc_paging.proofs.Kept.{link-top}
 
 free_frames-cons : (b : Bool) (free : List Bool) → free_frames (b ∷ free) ≡ cond b 1 0 + free_frames free
 free_frames-cons b free = sum_by-cons (λ x. cond x 1 0) b free
@@ -22,8 +23,8 @@ position_takes (false ∷ free) l =
     (suc h.0, grind (arith, nat_tests, h.1), omega (arith, h.2, free_frames-cons false free, free_frames-cons false (set free h.0 false)))
 
 -- a table that is not below this level changes no need there
-same_need : (t : TableFrame) (ts : List TableFrame) (l first count : ℕ) → l ≤ t.piece.level → need (with_table t ts) l first count ≡ need ts l first count
-unfolding need missing
+same_need : (t : TableFrame) (ts : List TableFrame) (l first count : ℕ) → l ≤ t.piece.level → need_below (with_table t ts) l first count ≡ need_below ts l first count
+unfolding need_below missing
 same_need t ts zero first count s = refl
 same_need t ts (suc l) first count s =
     let other = same_need t ts l first count (omega arith) in
@@ -42,7 +43,7 @@ pub record Linked (c d : Changed) (lack_of : ℕ) : Type 0 where
 record LinkedOne (c d : Changed) (l n : ℕ) : Type 0 where
   linked : Linked c d (lack (frame_of c.tables.tables l n))
   there : frame_of d.tables.tables l n ≢ None
-  same : (first count : ℕ) → need d.tables.tables l first count ≡ need c.tables.tables l first count
+  same : (first count : ℕ) → need_below d.tables.tables l first count ≡ need_below c.tables.tables l first count
 
 link-takes : (c : Changed) (l n parent : ℕ) → frame_of c.tables.tables (suc l) (n / 512) ≡ Some parent → lack (frame_of c.tables.tables l n) ≤ free_frames c.free → LinkedOne c (link l n c) l n
 link-takes c l n parent e s = go (frame_of c.tables.tables l n) refl s
@@ -67,16 +68,16 @@ some_of : {A : Type 0} (x : Option A) → x ≢ None → (y : A) × (x ≡ Some 
 some_of None h = absurd (h refl)
 some_of (Some y) h = (y, refl)
 
-pub need_one : (ts : List TableFrame) (l number : ℕ) → need ts (suc l) number 1 ≡ lack (frame_of ts l (piece (suc l) number)) + need ts l number 1
-unfolding need missing
+pub need_one : (ts : List TableFrame) (l number : ℕ) → need_below ts (suc l) number 1 ≡ lack (frame_of ts l (piece (suc l) number)) + need_below ts l number 1
+unfolding need_below missing
 need_one ts l number =
     let here : number + 0 ≡ number = omega arith in
     let z : piece (suc l) number - piece (suc l) number + 1 ≡ 1 = omega arith in
     rw (here, z) (omega arith)
 
 -- over one page
-pub link_all-takes : (l number : ℕ) (c : Changed) (root : ℕ) → frame_of c.tables.tables l (piece (suc l) number) ≡ Some root → need c.tables.tables l number 1 ≤ free_frames c.free → Linked c (link_all l number c) (need c.tables.tables l number 1) × (frame_of (link_all l number c).tables.tables 0 (number / 512) ≢ None)
-unfolding link_all need
+pub link_all-takes : (l number : ℕ) (c : Changed) (root : ℕ) → frame_of c.tables.tables l (piece (suc l) number) ≡ Some root → need_below c.tables.tables l number 1 ≤ free_frames c.free → Linked c (link_all l number c) (need_below c.tables.tables l number 1) × (frame_of (link_all l number c).tables.tables 0 (number / 512) ≢ None)
+unfolding link_all need_below
 link_all-takes zero number c root e s = (record { count = omega arith; stays = λ k m f d. d }, λ d. cc)
 link_all-takes (suc l) number c root e s =
     let n = piece (suc l) number in
@@ -84,7 +85,7 @@ link_all-takes (suc l) number c root e s =
     let one : LinkedOne c (link l n c) l n = link-takes c l n root e (omega arith) in
     let there = some_of _ one.there in
     let count = one.linked.count in
-    let same : need (link l n c).tables.tables l number 1 ≡ need c.tables.tables l number 1 = one.same number 1 in
+    let same : need_below (link l n c).tables.tables l number 1 ≡ need_below c.tables.tables l number 1 = one.same number 1 in
     let on = link_all-takes l number (link l n c) there.0 there.1 (omega arith) in
     let count_on = on.0.count in
     (record { count = omega arith; stays = λ k m f d. on.0.stays k m f (one.linked.stays k m f d) }, on.1)
@@ -136,8 +137,8 @@ missing_split top number ts us l a b c s g e (inr d) m k =
     let e3 = missing_same ts us l (a + 1) (b - a) (λ n q. g.same l n s (omega arith)) in
     rw (d, e1, e2) (omega arith)
 
-need_split : (top l number more : ℕ) (ts us : List TableFrame) → l ≤ top → Grown top number ts us → need ts l number (suc (suc more)) ≡ need ts l number 1 + need us l (number + 1) (suc more)
-unfolding need
+need_split : (top l number more : ℕ) (ts us : List TableFrame) → l ≤ top → Grown top number ts us → need_below ts l number (suc (suc more)) ≡ need_below ts l number 1 + need_below us l (number + 1) (suc more)
+unfolding need_below
 need_split top zero number more ts us s g = refl
 need_split top (suc l) number more ts us s g =
     let last : number + suc more ≡ number + 1 + more = omega arith in
@@ -159,7 +160,7 @@ unfolding link_all
 link_all-above zero number c k m s = refl
 link_all-above (suc l) number c k m s = link_all-above l number (link l (piece (suc l) number) c) k m (omega arith) ∙ link-other c l (piece (suc l) number) k m _ _ _ (grind (arith, nat_tests))
 
-pub link_all-grown : (l number : ℕ) (c : Changed) (root : ℕ) → frame_of c.tables.tables l (piece (suc l) number) ≡ Some root → need c.tables.tables l number 1 ≤ free_frames c.free → Grown l number c.tables.tables (link_all l number c).tables.tables
+pub link_all-grown : (l number : ℕ) (c : Changed) (root : ℕ) → frame_of c.tables.tables l (piece (suc l) number) ≡ Some root → need_below c.tables.tables l number 1 ≤ free_frames c.free → Grown l number c.tables.tables (link_all l number c).tables.tables
 unfolding link_all
 link_all-grown zero number c root e s = record { there = λ k l. absurd (omega arith); same = λ k n l. absurd (omega arith) }
 link_all-grown (suc l) number c root e s =
@@ -168,8 +169,8 @@ link_all-grown (suc l) number c root e s =
     let one : LinkedOne c (link l n c) l n = link-takes c l n root e (omega arith) in
     let there = some_of _ one.there in
     let count = one.linked.count in
-    let same : need (link l n c).tables.tables l number 1 ≡ need c.tables.tables l number 1 = one.same number 1 in
-    let low : need (link l n c).tables.tables l number 1 ≤ free_frames (link l n c).free = omega arith in
+    let same : need_below (link l n c).tables.tables l number 1 ≡ need_below c.tables.tables l number 1 = one.same number 1 in
+    let low : need_below (link l n c).tables.tables l number 1 ≤ free_frames (link l n c).free = omega arith in
     let on = link_all-grown l number (link l n c) there.0 there.1 low in
     let stays = link_all-takes l number (link l n c) there.0 there.1 low in
     record {
@@ -183,17 +184,31 @@ link_all-grown (suc l) number c root e s =
     apart : (k m : ℕ) → k ≡ l → m ≢ piece (suc k) number → ((l == k) && (piece (suc l) number == m)) ≡ false
     apart k m q h = grind (arith, nat_tests, h, ap (λ j. piece (suc j) number) q)
 
+pub link_all-top : (l number : ℕ) (c : Changed) → (link_all l number c).tables.top ≡ c.tables.top
+unfolding link_all
+link_all-top zero number c = refl
+link_all-top (suc l) number c = link_all-top l number (link l (piece (suc l) number) c) ∙ link-top l (piece (suc l) number) c
+
+put-top : (number : ℕ) (m : Mapping) (x : Option ℕ) (c : Changed) → (leaf_put number m x c).tables.top ≡ c.tables.top
+put-top number m None c = refl
+put-top number m (Some t) c = refl
+
+-- the number of levels stays
+pub map_page-top : (number : ℕ) (m : Mapping) (c : Changed) → (map_page number m c).tables.top ≡ c.tables.top
+map_page-top number m c = put-top number m _ (link_all c.tables.top number c) ∙ link_all-top c.tables.top number c
+
 pub put-tables : (number : ℕ) (m : Mapping) (x : Option ℕ) (c : Changed) → ((leaf_put number m x c).tables.tables ≡ c.tables.tables) × ((leaf_put number m x c).free ≡ c.free)
 put-tables number m None c = (refl, refl)
 put-tables number m (Some t) c = (refl, refl)
 
 -- a mapping takes what it needs, and the page is mapped as asked
-pub maps : (top number root : ℕ) (m : Mapping) (c : Changed) → frame_of c.tables.tables top (piece (suc top) number) ≡ Some root → need c.tables.tables top number 1 ≤ free_frames c.free → MapsPage top number m c (map_page top number m c)
-maps top number root m c e s =
+pub maps : (number root : ℕ) (m : Mapping) (c : Changed) → frame_of c.tables.tables c.tables.top (piece (suc c.tables.top) number) ≡ Some root → need c.tables number 1 ≤ free_frames c.free → MapsPage number m c (map_page number m c)
+maps number root m c e s =
+    let top = c.tables.top in
     let k = link_all-takes top number c root e s in
     let t = some_of _ k.1 in
     record {
-      root = ap (λ ts. frame_of ts top 0) (put-tables number m (frame_of (link_all top number c).tables.tables 0 (number / 512)) (link_all top number c)).0 ∙ link_all-above top number c top 0 (omega arith);
+      root = rw map_page-top (ap (λ ts. frame_of ts top 0) (put-tables number m (frame_of (link_all top number c).tables.tables 0 (number / 512)) (link_all top number c)).0 ∙ link_all-above top number c top 0 (omega arith));
       taken = rw t.1 k.0.count;
       pages = λ q. rw t.1 (mapping_at-with_page _ number q m ∙ ap (λ ms. cond (number == q) (Some m) (mapping_at ms q)) (link_all-pages top number c));
     }
@@ -201,8 +216,8 @@ maps top number root m c e s =
 piece_top : (l p q : ℕ) → p ≤ q → piece l q ≡ 0 → piece l p ≡ 0
 piece_top l p q s e = let h = piece_mono l p q s in omega arith
 
-need_low : (l number more : ℕ) (ts : List TableFrame) → need ts l number 1 ≤ need ts l number (suc more)
-unfolding need missing
+need_low : (l number more : ℕ) (ts : List TableFrame) → need_below ts l number 1 ≤ need_below ts l number (suc more)
+unfolding need_below missing
 need_low zero number more ts = omega arith
 need_low (suc l) number more ts =
     let a = piece_mono (suc l) number (number + more) (omega arith) in
@@ -212,20 +227,24 @@ need_low (suc l) number more ts =
     rw (one, e1) (omega arith)
 
 -- ascending pages take what they need together, one after another
-pub maps_all : (top number root : ℕ) (m : Mapping) (ms : List Mapping) (c : Changed) → frame_of c.tables.tables top 0 ≡ Some root → piece (suc top) (number + length ms) ≡ 0 → need c.tables.tables top number (suc (length ms)) ≤ free_frames c.free → free_frames (map_pages top number (m ∷ ms) c).free + need c.tables.tables top number (suc (length ms)) ≡ free_frames c.free
-maps_all top number root m [] c e z s =
+pub maps_all : (number root : ℕ) (m : Mapping) (ms : List Mapping) (c : Changed) → root_of c.tables ≡ Some root → piece (levels_of c.tables) (number + length ms) ≡ 0 → need c.tables number (suc (length ms)) ≤ free_frames c.free → free_frames (map_pages number (m ∷ ms) c).free + need c.tables number (suc (length ms)) ≡ free_frames c.free
+maps_all number root m [] c e z s =
+    let top = c.tables.top in
     let r : piece (suc top) number ≡ 0 = piece_top (suc top) number (number + 0) (omega arith) z in
-    (maps top number root m c (rw r e) s).taken
-maps_all top number root m (x ∷ ms) c e z s =
+    (maps number root m c (rw r e) s).taken
+maps_all number root m (x ∷ ms) c e z s =
+    let top = c.tables.top in
     let r : piece (suc top) number ≡ 0 = piece_top (suc top) number (number + suc (length ms)) (omega arith) z in
     let e2 : frame_of c.tables.tables top (piece (suc top) number) ≡ Some root = rw r e in
     let d = link_all top number c in
-    let f : (map_page top number m c).tables.tables ≡ d.tables.tables = (put-tables number m _ d).0 in
-    let low : need c.tables.tables top number 1 ≤ free_frames c.free = (let h = need_low top number (suc (length ms)) c.tables.tables in omega arith) in
-    let g : Grown top number c.tables.tables (map_page top number m c).tables.tables = subst (Grown top number c.tables.tables) (sym f) (link_all-grown top number c root e2 low) in
-    let split = need_split top top number (length ms) c.tables.tables (map_page top number m c).tables.tables (omega arith) g in
-    let took = (maps top number root m c e2 low).taken in
-    let still : frame_of (map_page top number m c).tables.tables top 0 ≡ Some root = rw f (link_all-above top number c top 0 (omega arith) ∙ e) in
-    let z2 : piece (suc top) (number + 1 + length ms) ≡ 0 = (let q : number + 1 + length ms ≡ number + suc (length ms) = omega arith in rw q z) in
-    let on = maps_all top (number + 1) root x ms (map_page top number m c) still z2 (omega arith) in
+    let f : (map_page number m c).tables.tables ≡ d.tables.tables = (put-tables number m _ d).0 in
+    let low : need_below c.tables.tables top number 1 ≤ free_frames c.free = (let h = need_low top number (suc (length ms)) c.tables.tables in omega arith) in
+    let g : Grown top number c.tables.tables (map_page number m c).tables.tables = subst (Grown top number c.tables.tables) (sym f) (link_all-grown top number c root e2 low) in
+    let split = need_split top top number (length ms) c.tables.tables (map_page number m c).tables.tables (omega arith) g in
+    let took = (maps number root m c e2 low).taken in
+    let same = map_page-top number m c in
+    let still : root_of (map_page number m c).tables ≡ Some root = rw same (rw f (link_all-above top number c top 0 (omega arith) ∙ e)) in
+    let z2 : piece (levels_of (map_page number m c).tables) (number + 1 + length ms) ≡ 0 = rw same (let q : number + 1 + length ms ≡ number + suc (length ms) = omega arith in rw q z) in
+    let left : need_below (map_page number m c).tables.tables (map_page number m c).tables.top (number + 1) (suc (length ms)) ≡ need_below (map_page number m c).tables.tables top (number + 1) (suc (length ms)) = rw same refl in
+    let on = maps_all (number + 1) root x ms (map_page number m c) still z2 (omega arith) in
     omega arith

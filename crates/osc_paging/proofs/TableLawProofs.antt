@@ -10,7 +10,7 @@ use Rattle.osc_sv39.specs.Walk.{piece, word_at, put_word, is_canonical, frame_al
 use Rattle.osc_paging.specs.declared.Piece.{Piece}
 use Rattle.osc_paging.specs.declared.TableFrame.{TableFrame}
 use Rattle.osc_paging.specs.JobWords.{zeroed}
-use Rattle.osc_paging.specs.KeptTables.{KeptTables, page_entry, link_entry, mapping_at, frame_of, piece_of, child, closed, need, missing}
+use Rattle.osc_paging.specs.KeptTables.{KeptTables, page_entry, link_entry, mapping_at, frame_of, piece_of, levels_of, child, closed, need_below, missing}
 use Rattle.osc_paging.specs.TableChanges.{Changed, opened, unlinked, leaf_put, link_all}
 use Rattle.osc_paging.specs.Agree.{Agrees, AgreesAfter}
 use Rattle.osc_paging.specs.TableLaws.{WalkGivesMapping, OpeningAgrees, MappingKeeps, UnmappingKeeps, ReclaimingKeeps, GivingKeeps, MappingTakesNeed, MappingsTakeNeed, StoresElsewhereKeep, TablesStandAbove}
@@ -34,19 +34,20 @@ positive zero = omega arith
 positive (suc l) = rw pow-succ' (let h = positive l in omega arith)
 
 pub walk_gives_mapping : WalkGivesMapping
-walk_gives_mapping top t free words root address access g e =
+walk_gives_mapping t free words root address access g e =
+    let top = t.top in
     let page = address / 4096 in
     let under : suc top - 1 ≡ top = omega arith in
     let low : number_of (suc top) page < 512 ^ suc top = mod-lt page (positive (suc top)) in
     let here : frame_of t.tables top (piece (suc top) (number_of (suc top) page)) ≡ Some root = rw (piece-top (suc top) (number_of (suc top) page) low) e in
-    rw (under, walks top t free words top (number_of (suc top) page) root g (omega arith) here) (chosen (is_canonical (suc top) page) (mapping_at t.pages (number_of (suc top) page)))
+    rw (under, walks t free words top (number_of (suc top) page) root g (omega arith) here) (chosen (is_canonical (suc top) page) (mapping_at t.pages (number_of (suc top) page)))
   where
     chosen : (b : Bool) (found : Option Mapping) → cond b (frame_allowed access found) None ≡ frame_allowed access (cond b found None)
     chosen true found = refl
     chosen false found = refl
 
 pub opening_agrees : OpeningAgrees
-opening_agrees top count room root free words size small taken zeros = record {
+opening_agrees levels count room root free words size small taken zeros = record {
   size = size;
   small = small;
   apart = (refl, refl, tt);
@@ -58,8 +59,11 @@ opening_agrees top count room root free words size small taken zeros = record {
   zeros = λ f i p s e. cc;
 }
   where
+    top : ℕ
+    top = levels - 1
+
     t : KeptTables
-    t = opened top root (closed count room)
+    t = opened root (closed levels count room)
 
     only : (f : ℕ) (p : Piece) → piece_of t.tables f ≡ Some p → (root ≡ f) × (record { level = top; number = 0 } ≡ p)
     only f p e = grind (arith, nat_tests, e)
@@ -82,48 +86,51 @@ opening_agrees top count room root free words size small taken zeros = record {
         (subst (λ g. word_at words g i ≡ word_of (child t top (0 * 512 + i))) o.0 here)
 
 pub mapping_keeps : MappingKeeps
-mapping_keeps entries top words c number m reads g = go _ refl
+mapping_keeps entries words c number m reads g = go _ refl
   where
+    top : ℕ
+    top = c.tables.top
+
     d : Changed
     d = link_all top number c
 
-    go : (x : Option ℕ) → frame_of d.tables.tables 0 (number / 512) ≡ x → AgreesAfter entries top words (leaf_put number m x d)
-    go None e = link_all-agrees entries top c words top number (omega arith) g
-    go (Some t) e = put-agrees entries top d words number m t reads e (link_all-agrees entries top c words top number (omega arith) g)
+    go : (x : Option ℕ) → frame_of d.tables.tables 0 (number / 512) ≡ x → AgreesAfter entries words (leaf_put number m x d)
+    go None e = link_all-agrees entries c words top number (omega arith) g
+    go (Some t) e = put-agrees entries d words number m t reads e (link_all-agrees entries c words top number (omega arith) g)
 
 pub unmapping_keeps : UnmappingKeeps
-unmapping_keeps entries top words c number g = go _ refl
+unmapping_keeps entries words c number g = go _ refl
   where
-    go : (x : Option ℕ) → frame_of c.tables.tables 0 (number / 512) ≡ x → AgreesAfter entries top words (leaf_taken number x c)
-    go None e = gone-agrees entries top c words number e g
-    go (Some t) e = take-agrees entries top c words number t e g
+    go : (x : Option ℕ) → frame_of c.tables.tables 0 (number / 512) ≡ x → AgreesAfter entries words (leaf_taken number x c)
+    go None e = gone-agrees entries c words number e g
+    go (Some t) e = take-agrees entries c words number t e g
 
 pub reclaiming_keeps : ReclaimingKeeps
-reclaiming_keeps entries top words c leaf s empty g = go _ _ refl refl
+reclaiming_keeps entries words c leaf s empty g = go _ _ refl refl
   where
-    go : (x y : Option ℕ) → frame_of c.tables.tables 0 leaf ≡ x → frame_of c.tables.tables 1 (leaf / 512) ≡ y → AgreesAfter entries top words (unlinked leaf x y c)
+    go : (x y : Option ℕ) → frame_of c.tables.tables 0 leaf ≡ x → frame_of c.tables.tables 1 (leaf / 512) ≡ y → AgreesAfter entries words (unlinked leaf x y c)
     go None y e f = g
     go (Some t) None e f = g
-    go (Some t) (Some p) e f = unlinked-agrees entries top c words leaf t p s empty e f g
+    go (Some t) (Some p) e f = unlinked-agrees entries c words leaf t p s empty e f g
 
 pub giving_keeps : GivingKeeps
-giving_keeps entries top words c g = give-agrees entries top c words g
+giving_keeps entries words c g = give-agrees entries c words g
 
 pub mapping_takes_need : MappingTakesNeed
-mapping_takes_need top number root m c e s n = maps top number root m c (rw (piece-top (suc top) number s) e) n
+mapping_takes_need number root m c e s n = maps number root m c (rw (piece-top (levels_of c.tables) number s) e) n
 
-pub none_needed : (ts : List TableFrame) (l number : ℕ) → need ts l number 0 ≡ 0
-unfolding need missing
+pub none_needed : (ts : List TableFrame) (l number : ℕ) → need_below ts l number 0 ≡ 0
+unfolding need_below missing
 none_needed ts zero number = refl
 none_needed ts (suc l) number = let h = none_needed ts l number in omega arith
 
 pub mappings_take_need : MappingsTakeNeed
-mappings_take_need top number root [] c e s n = rw (none_needed c.tables.tables top number) (omega arith)
-mappings_take_need top number root (m ∷ ms) c e s n = maps_all top number root m ms c e (piece-top (suc top) (number + length ms) (omega arith)) n
+mappings_take_need number root [] c e s n = rw (none_needed c.tables.tables c.tables.top number) (omega arith)
+mappings_take_need number root (m ∷ ms) c e s n = maps_all number root m ms c e (piece-top (levels_of c.tables) (number + length ms) (omega arith)) n
 
 -- words that are the same at all tables agree
-same-agrees : (top : ℕ) (t : KeptTables) (free : List Bool) (words now : List ℕ) (g : ℕ) → Agrees top t free words → length now ≡ length words → piece_of t.tables g ≡ None → piece_of t.aside g ≡ None → ((f i : ℕ) → i < 512 → f ≢ g → word_at now f i ≡ word_at words f i) → Agrees top t free now
-same-agrees top t free words now g k l none out same = record {
+same-agrees : (t : KeptTables) (free : List Bool) (words now : List ℕ) (g : ℕ) → Agrees t free words → length now ≡ length words → piece_of t.tables g ≡ None → piece_of t.aside g ≡ None → ((f i : ℕ) → i < 512 → f ≢ g → word_at now f i ≡ word_at words f i) → Agrees t free now
+same-agrees t free words now g k l none out same = record {
   size = l ∙ k.size;
   small = k.small;
   apart = k.apart;
@@ -136,13 +143,13 @@ same-agrees top t free words now g k l none out same = record {
 }
 
 pub stores_elsewhere_keep : StoresElsewhereKeep
-stores_elsewhere_keep top t free words g k none out = record {
-  stored = λ i v s. same-agrees top t free words (put_word words g i v) g k (length-set words _ v) none out (λ f j q d. grind (arith, nat_tests, get_or-set words (g * 512 + i) (f * 512 + j) v));
-  zeroed = λ i count s. same-agrees top t free words (zeroed (g * 512 + i) count words) g k (length-zeroed count _ words) none out (λ f j q d. grind (arith, nat_tests, zeroed_at count (g * 512 + i) words (f * 512 + j)));
+stores_elsewhere_keep t free words g k none out = record {
+  stored = λ i v s. same-agrees t free words (put_word words g i v) g k (length-set words _ v) none out (λ f j q d. grind (arith, nat_tests, get_or-set words (g * 512 + i) (f * 512 + j) v));
+  zeroed = λ i count s. same-agrees t free words (zeroed (g * 512 + i) count words) g k (length-zeroed count _ words) none out (λ f j q d. grind (arith, nat_tests, zeroed_at count (g * 512 + i) words (f * 512 + j)));
 }
 
 pub tables_stand_above : TablesStandAbove
-tables_stand_above top t free words g = record {
+tables_stand_above t free words g = record {
   pages = λ n h. g.parents 0 n (omega arith) (mapped _ h);
   tables = λ l n s h. g.parents (suc l) n s (linked _ h);
 }

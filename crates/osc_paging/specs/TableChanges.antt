@@ -87,14 +87,14 @@ leaf_put number mapping (Some table) c = record c {
 abbrev pub put_leaf : ℕ → Mapping → Changed → Changed
 put_leaf number mapping c = leaf_put number mapping (frame_of c.tables.tables 0 (number / 512)) c
 
--- the page of this number is mapped; `top` is the level of the topmost table
-abbrev pub map_page : ℕ → ℕ → Mapping → Changed → Changed
-map_page top number mapping c = put_leaf number mapping (link_all top number c)
+-- the page of this number is mapped
+abbrev pub map_page : ℕ → Mapping → Changed → Changed
+map_page number mapping c = put_leaf number mapping (link_all c.tables.top number c)
 
 -- pages from this one on, ascending
-abbrev pub map_pages : ℕ → ℕ → List Mapping → Changed → Changed
-map_pages top number [] c = c
-map_pages top number (mapping ∷ mappings) c = map_pages top (number + 1) mappings (map_page top number mapping c)
+abbrev pub map_pages : ℕ → List Mapping → Changed → Changed
+map_pages number [] c = c
+map_pages number (mapping ∷ mappings) c = map_pages (number + 1) mappings (map_page number mapping c)
 
 -- ---- unmap
 -- the entry of the page of this number is cleared, where its leaf table is there
@@ -137,8 +137,8 @@ give_leaves c = record c {
 
 -- ---- whole tables
 -- the topmost table alone
-abbrev pub opened : ℕ → ℕ → KeptTables → KeptTables
-opened top root t = record t { tables = table_frame top 0 root ∷ [] }
+abbrev pub opened : ℕ → KeptTables → KeptTables
+opened root t = record t { tables = table_frame t.top 0 root ∷ [] }
 
 -- no table any more
 abbrev pub emptied : KeptTables → KeptTables

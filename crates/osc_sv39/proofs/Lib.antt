@@ -1,2 +1,3 @@
 pub mod FlagTests
 pub mod EntriesBack
+mod Numbers

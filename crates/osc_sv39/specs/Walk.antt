@@ -2,12 +2,16 @@
 -- "Virtual Address Translation Process" and the sections on Sv39 and Sv48, for any number of levels.
 -- A frame has 512 words, and the words of all frames stand one after another. A page is an address
 -- divided by 4096.
-use Rattle.std.specs.Prelude.{ℕ, zero, suc, ◌+◌, ◌-◌, ◌*◌, ◌/◌, ◌%◌, ◌^◌, ◌==◌, Bool, ◌||◌, Option, Some, None, List, [], ◌∷◌, slice_index, slice_set, if◌then◌else◌}
+use Rattle.std.specs.Prelude.{ℕ, zero, suc, ◌+◌, ◌-◌, ◌*◌, ◌/◌, ◌%◌, ◌^◌, ◌==◌, ◌≤◌, Bool, ◌||◌, Option, Some, None, List, [], ◌∷◌, slice_index, slice_set, if◌then◌else◌}
 use Rattle.osc_sv39.specs.declared.entries.PteEntry.{PteEntry}
 use Rattle.osc_sv39.specs.declared.entries.PteEntry.TheVariants.{Absent, Table, Leaf, Reserved}
 use Rattle.osc_sv39.specs.declared.entries.Access.{Access}
 use Rattle.osc_sv39.specs.declared.entries.Mapping.{Mapping}
 use Rattle.osc_sv39.specs.Entries.{entry_of, is_allowed}
+
+-- the numbers of levels that there are: three for Sv39, four for Sv48
+abbrev pub IsLevels : ℕ → Type 0
+IsLevels levels = (3 ≤ levels) × (levels ≤ 4)
 
 -- the piece that holds a page: 512 pieces of a level are one of the next, and a page is one of level 0
 abbrev pub piece : ℕ → ℕ → ℕ
@@ -23,15 +27,15 @@ is_canonical levels page =
 abbrev pub number_of : ℕ → ℕ → ℕ
 number_of levels page = page % 512 ^ levels
 
--- the numbers VPN from the topmost level down
+-- the numbers VPN of so many levels, from the topmost down
 abbrev pub numbers_of : ℕ → ℕ → List ℕ
 numbers_of zero number = []
 numbers_of (suc level) number = piece level number % 512 ∷ numbers_of level number
 
--- the numbers VPN of an address
+-- VPN[3], VPN[2], VPN[1] and VPN[0] of an address; for three levels VPN[3] is 0
 abbrev pub page_numbers : ℕ → ℕ → Option (List ℕ)
 page_numbers levels address =
-    if is_canonical levels (address / 4096) then Some (numbers_of levels (number_of levels (address / 4096))) else None
+    if is_canonical levels (address / 4096) then Some (numbers_of 4 (number_of levels (address / 4096))) else None
 
 abbrev pub word_at : List ℕ → ℕ → ℕ → ℕ
 word_at words frame index = slice_index words (frame * 512 + index)

@@ -1,4 +1,4 @@
-//! Entries of page tables, by the Sv39 chapter of the RISC-V Privileged manual: the words that
+//! Entries of page tables, by the Sv39 and Sv48 sections of the RISC-V Privileged manual: the words that
 //! stand in a table, what a word says, and the parts of a virtual address. In `specs/` is also the
 //! walk over the words of memory, for any number of levels.
 //!

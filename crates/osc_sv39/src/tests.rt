@@ -7,17 +7,25 @@ fn bits(number: u8) -> PteBits {
 
 #[test]
 fn addresses(rt: HostRuntime) {
-    for (address, numbers) in [
-        (0x10_0000_0010, Some([64, 0, 0])),
-        (0x40_0000_0000, None),
-        (0x3f_ffff_ffff, Some([255, 511, 511])),
-        (0xffff_ffc0_0000_0000, Some([256, 0, 0])),
-        (0xffff_ffbf_ffff_ffff, None),
-        (u64::MAX, Some([511, 511, 511])),
-        (0x8000_0000_0000_0000, None),
-        (0x2_0040_3fff, Some([8, 2, 3])),
+    for (address, levels, numbers) in [
+        (0x10_0000_0010, 3, Some([0, 64, 0, 0])),
+        (0x40_0000_0000, 3, None),
+        (0x3f_ffff_ffff, 3, Some([0, 255, 511, 511])),
+        (0xffff_ffc0_0000_0000, 3, Some([0, 256, 0, 0])),
+        (0xffff_ffbf_ffff_ffff, 3, None),
+        (u64::MAX, 3, Some([0, 511, 511, 511])),
+        (0x8000_0000_0000_0000, 3, None),
+        (0x2_0040_3fff, 3, Some([0, 8, 2, 3])),
+        (0x2_0040_3fff, 4, Some([0, 8, 2, 3])),
+        (0x40_0000_0000, 4, Some([0, 256, 0, 0])),
+        (0x7fff_ffff_ffff, 4, Some([255, 511, 511, 511])),
+        (0x8000_0000_0000, 4, None),
+        (0xffff_7fff_ffff_ffff, 4, None),
+        (0xffff_8000_0000_0000, 4, Some([256, 0, 0, 0])),
+        (u64::MAX, 4, Some([511, 511, 511, 511])),
     ] {
-        assert_eq!(rt; split(address), numbers);
+        assert!(rt; levels == 3 || levels == 4);
+        assert_eq!(rt; split(address, levels), numbers);
     }
 }
 
