@@ -6,7 +6,7 @@ use Rattle.osc_word.specs.declared.calls.Request.{Request}
 use Rattle.osc_word.specs.declared.steps.Label.{Label}
 use Rattle.osc_space.specs.Header.{Found}
 use Rattle.osc_calls.specs.declared.Begun.{Begun}
-use Rattle.osc_calls.specs.declared.Begun.TheVariants.{Again, JournalFull, Gone, Boxes, Header, Planned}
+use Rattle.osc_calls.specs.declared.Begun.TheVariants.{Again, JournalFull, Gone, Boxes, Planned}
 use Rattle.osc_calls.specs.Kernel.{KernelState, Process, Calling, UnderWay, Retrying, Leaving, Waiting, Shown, process_at, is_last, has_journal_room}
 use Rattle.osc_calls.specs.Requests.{calling_of, meant, is_ready}
 use Rattle.osc_calls.specs.Refusals.{refusal}

@@ -1,6 +1,6 @@
 -- What each hart's box gets by the committed call, at its job or when the hart that called gives it
 -- back. This project's own.
-use Rattle.std.specs.Prelude.{ℕ, ◌==◌, Bool, true, false, if◌then◌else◌, slice_get, Option, Some, None}
+use Rattle.std.specs.Prelude.{ℕ, ◌==◌, Bool, false, if◌then◌else◌, slice_get, Option, Some}
 use Rattle.osc_word.specs.declared.orders.Order.TheVariants as orders
 use Rattle.osc_paging.specs.Boxes.{BoxState, cleared}
 use Rattle.osc_calls.specs.declared.BoxChange.{BoxChange}

@@ -1,5 +1,6 @@
 -- The end of a call: what it gives back, and how its hart goes on. This project's own.
-use Rattle.std.specs.Prelude.{ℕ, ◌-◌, List, [], length, slice_get, Option, Some, None, unwrap_or}
+use Rattle.std.specs.Prelude.{ℕ, ◌-◌, List, [], length, slice_get, Option, Some, None}
+use Rattle.std.specs.Option.{option_map_or}
 use Rattle.osc_word.specs.declared.calls.Fault.TheVariants as faults
 use Rattle.osc_word.specs.declared.calls.Call.{Call}
 use Rattle.osc_word.specs.declared.calls.Call.TheVariants as calls
@@ -10,8 +11,8 @@ use Rattle.osc_word.specs.declared.calls.Resume.TheVariants.{Return, Again, Idle
 use Rattle.osc_word.specs.declared.steps.Label.{Label}
 use Rattle.osc_word.specs.Environment.{minus_one}
 use Rattle.osc_space.specs.declared.ObjectFact.{ObjectFact}
-use Rattle.osc_space.specs.Space.{Space, Closing, Keeps, GivesBack}
-use Rattle.osc_space.specs.Objects.{object_at}
+use Rattle.osc_space.specs.Space.{Closing, Keeps, GivesBack}
+use Rattle.osc_space.specs.Objects.{Seen, object_at}
 use Rattle.osc_space.specs.Finish.{finished, ended, Ended as SpaceEnded}
 use Rattle.osc_calls.specs.declared.HartRecord.{HartRecord}
 use Rattle.osc_calls.specs.declared.HartRecord.TheVariants as records
@@ -39,7 +40,7 @@ pointer_of (calls.Realloc pointer size) = pointer
 pointer_of _ = 0
 
 abbrev pub object_of : List ObjectFact → Call → ℕ
-object_of objects call = unwrap_or (object_at objects (pointer_of call)) 0
+object_of objects call = option_map_or (λ (s : Seen). s.number) (object_at objects (pointer_of call)) 0
 
 -- a byte of a buffer that cannot be read is a load page fault (RISC-V Privileged manual, "Supervisor
 -- Cause Register")

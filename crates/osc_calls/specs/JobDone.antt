@@ -1,9 +1,9 @@
 -- A job that is done, and what stands in a table that a job copies. This project's own.
-use Rattle.std.specs.Prelude.{ℕ, ◌-◌, List, [], ◌++◌, length, take, drop, slice_get, Option, Some, None}
+use Rattle.std.specs.Prelude.{ℕ, ◌-◌, List, ◌++◌, length, take, drop, slice_get, Option, Some, None}
 use Rattle.byteorder.specs.Endian.{little_bytes}
 use Rattle.osc_word.specs.declared.job_list.Job.{Job}
 use Rattle.osc_word.specs.declared.job_list.Job.TheVariants.{CopyTable, ToOut}
-use Rattle.osc_space.specs.Fork.{copied_entry}
+use Rattle.osc_paging.specs.KeptTables.{kept_word}
 use Rattle.osc_calls.specs.Kernel.{KernelState, Process, Shown, next_job}
 use Rattle.osc_calls.specs.Labels.{out_shows}
 
@@ -14,9 +14,9 @@ newest processes = slice_get processes (length processes - 1)
 
 abbrev pub entry_in : Option Process → ℕ → ℕ → ℕ
 entry_in None frame index = 0
-entry_in (Some child) frame index = copied_entry child.space frame index
+entry_in (Some child) frame index = kept_word child.space.tables frame index
 
--- what a copied table's frame gets at an index
+-- what a copied table's frame gets at an index: the child's own entry
 abbrev pub entries : KernelState → ℕ → ℕ → ℕ
 entries kernel frame index = entry_in (newest kernel.processes) frame index
 

@@ -15,7 +15,7 @@ use Rattle.osc_space.specs.Space.{Space, Closing}
 use Rattle.osc_space.specs.Objects.{mark}
 use Rattle.osc_calls.specs.declared.Thread.{Thread}
 use Rattle.osc_calls.specs.declared.HartRecord.{HartRecord}
-use Rattle.osc_calls.specs.declared.HartRecord.TheVariants.{Idle, Runs, Stopped}
+use Rattle.osc_calls.specs.declared.HartRecord.TheVariants.{Idle, Runs}
 use Rattle.osc_calls.specs.declared.Report.{Report}
 
 -- ---- the state

@@ -2,7 +2,7 @@
 -- taken from the least on: the root, and then for each page ascending the tables that are missing
 -- over it, from the top, and its own. This project's own; the flags of a leaf are those of the RISC-V
 -- Privileged manual, "Sv39" and "Sv48".
-use Rattle.std.specs.Prelude.{ℕ, ◌+◌, ◌*◌, ◌/◌, ◌%◌, ◌==◌, true, false, List, [], ◌∷◌, ◌++◌, length, map, find, position, replicate, slice_set, Option, Some, None, unwrap_or}
+use Rattle.std.specs.Prelude.{ℕ, ◌+◌, ◌*◌, ◌/◌, ◌%◌, ◌==◌, true, false, List, [], ◌∷◌, ◌++◌, map, find, position, replicate, slice_set, Option, Some, None, unwrap_or}
 use Rattle.std.specs.List.{range_with_len, filter_map}
 use Rattle.std.specs.Option.{option_map}
 use Rattle.byteorder.specs.Endian.{little_number}
@@ -20,7 +20,7 @@ use Rattle.osc_image.specs.Image.{Image, bits_at, byte_at, pages}
 use Rattle.osc_image.specs.Frames.{stack_pages}
 use Rattle.osc_space.specs.Share.{no_regions}
 use Rattle.osc_space.specs.Space.{Space}
-use Rattle.osc_space.specs.Ranges.{leaf_of_page}
+use Rattle.osc_space.specs.LeafFlags.{leaf_of_page}
 use Rattle.osc_calls.specs.declared.HartRecord.{HartRecord}
 use Rattle.osc_calls.specs.declared.HartRecord.TheVariants.{Idle, Runs}
 use Rattle.osc_calls.specs.Kernel.{KernelState, Process, Quiet, process_at, root}

@@ -1,11 +1,10 @@
 -- The calls on processes and threads: exit, done and the end by a fault, fork, spawn, and share. This
 -- project's own.
-use Rattle.std.specs.Prelude.{ℕ, ◌+◌, ◌*◌, ◌%◌, ◌^◌, Bool, true, false, if◌then◌else◌, List, [], ◌∷◌, ◌++◌, length, map, replicate, slice_set, Option, Some, None, unwrap_or}
+use Rattle.std.specs.Prelude.{ℕ, ◌+◌, ◌%◌, ◌^◌, Bool, true, false, if◌then◌else◌, List, [], ◌∷◌, ◌++◌, length, map, replicate, slice_set, Option, Some, None, unwrap_or}
 use Rattle.osc_word.specs.declared.settings.Config.{Config}
 use Rattle.osc_word.specs.declared.orders.Start.{Start}
 use Rattle.osc_word.specs.declared.job_list.Job.TheVariants.{Tell}
 use Rattle.osc_word.specs.declared.calls.Fault.{Fault}
-use Rattle.osc_word.specs.declared.calls.Answer.{Answer}
 use Rattle.osc_word.specs.declared.calls.Answer.TheVariants.{Number, Ended}
 use Rattle.osc_word.specs.Environment.{fault_status, answer_register}
 use Rattle.osc_word.specs.Registers.{with_register}
@@ -16,7 +15,7 @@ use Rattle.osc_space.specs.Share.{Sharing, share_plan, share_address, join as ho
 use Rattle.osc_calls.specs.declared.HartRecord.{HartRecord}
 use Rattle.osc_calls.specs.declared.HartRecord.TheVariants.{Idle, Runs, Stopped}
 use Rattle.osc_calls.specs.Threads.{new_number, spawned, thread_done}
-use Rattle.osc_calls.specs.Kernel.{KernelState, Process, Calling, Effect, Starts, Ends, with_process, with_record, root_frame, idle_hart, is_last, runs}
+use Rattle.osc_calls.specs.Kernel.{KernelState, Process, Calling, Starts, Ends, with_process, with_record, root_frame, idle_hart, is_last, runs}
 use Rattle.osc_calls.specs.Reports.{report_of}
 use Rattle.osc_calls.specs.Refusals.{sharing_of}
 use Rattle.osc_calls.specs.Planned.{Planned, answered}

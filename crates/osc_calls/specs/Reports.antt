@@ -6,7 +6,7 @@ use Rattle.osc_word.specs.declared.calls.Fault.TheVariants.{Access}
 use Rattle.osc_space.specs.declared.ObjectFact.{ObjectFact}
 use Rattle.osc_space.specs.declared.ObjectState.{ObjectState}
 use Rattle.osc_space.specs.declared.ObjectState.TheVariants as state
-use Rattle.osc_space.specs.Objects.{Seen, seen_on}
+use Rattle.osc_space.specs.Objects.{Seen, object_on}
 use Rattle.osc_calls.specs.declared.Place.{Place}
 use Rattle.osc_calls.specs.declared.Place.TheVariants.{Dead, Live, Nowhere}
 use Rattle.osc_calls.specs.declared.Report.{Report}
@@ -25,7 +25,7 @@ place_in address (Some seen) = place_on seen.number (offset_of address seen.fact
 
 -- whose address this is
 abbrev pub place_at : List ObjectFact → ℕ → Place
-place_at objects address = place_in address (seen_on objects (address / 4096))
+place_at objects address = place_in address (object_on objects (address / 4096))
 
 abbrev pub place_of : List ObjectFact → Fault → Place
 place_of objects (Access cause address) = place_at objects address
