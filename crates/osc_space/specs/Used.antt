@@ -1,7 +1,7 @@
 -- The frames that a process uses, by what was ever mapped: its tables, less the leaf tables that were
 -- given up, the pages of its image, of which the stack has 16 more, and those that hold blocks.
--- Which tables there are follows the RISC-V Privileged manual, "Sv39": a root, and one table for each
--- different VPN[2], and for each different pair VPN[2], VPN[1]; the rest is this project's own.
+-- Which tables there are follows the RISC-V Privileged manual, "Sv39" and "Sv48": a root, and for each
+-- level below it one for each different choice of the VPNs above; the rest is this project's own.
 use Rattle.std.specs.Prelude.{ℕ, zero, suc, ◌+◌, ◌-◌, List, map}
 use Rattle.osc_sv39.specs.Walk.{piece}
 use Rattle.osc_image.specs.Frames.{different}
