@@ -1,3 +1,0 @@
-pub mod JobLawProofs
-pub mod CallLawProofs
-pub mod MarkLawProofs
