@@ -1,2 +1,6 @@
 pub mod RowLaws
 pub mod StepLaws
+pub mod RunLaws
+pub mod KernelLaws
+pub mod JournalLaws
+pub mod AccessLaws

@@ -1,5 +1,5 @@
 -- Each turn and each step is one of their rows.
-use Rattle.std.proofs.Common.{ℕ, ◌≡◌, ◌+◌, ◌==◌, Bool, true, false, Option, Some, None, List, [], ◌∷◌, slice_get, slice_set, refl, sym, ap, ◌∙◌}
+use Rattle.std.proofs.Common.{ℕ, ◌≡◌, ◌+◌, ◌==◌, Bool, true, false, Option, Some, None, List, [], ◌∷◌, slice_get, slice_set, arith, refl, sym, ap, ◌∙◌}
 use Rattle.osc_paging.specs.Boxes.{BoxState}
 use Rattle.osc_guest.specs.declared.places.Ask.{Ask}
 use Rattle.osc_guest.specs.declared.places.Ask.TheVariants as guest
@@ -21,13 +21,13 @@ kernel_row _ h k p e = Unmoved refl
 
 last_row : (b : Bool) (h : HartState) (box : ℕ) (state : BoxState) (k : KernelState) → h.place ≡ TakingBoxes box → h.kernel ≡ Some k
     → (box + 1 == h.count) ≡ b → Turned h (Box state) (box_taken box state k h)
-last_row true h box state k p e b = TakesLastBox box state k p e refl b (grind (b))
-last_row false h box state k p e b = TakesBox box state k p e refl b (grind (b))
+last_row true h box state k p e b = TakesLastBox box state k p e refl b (grind (arith, b))
+last_row false h box state k p e b = TakesBox box state k p e refl b (grind (arith, b))
 
 work_row : (g : Progress) (h : HartState) (t : HartTold) (moves : List Move) (read : Option ℕ) (word : ℕ) (k : KernelState) → h.place ≡ Working moves read → h.kernel ≡ Some k
     → progress_of moves read word ≡ g → Turned h t (action_done moves read word k h)
-work_row (StillAt left now) h t moves read word k p e g = Works moves left read now word k p e g (grind (g))
-work_row AllDone h t moves read word k p e g = EndsJob moves read word k p e g (grind (g))
+work_row (StillAt left now) h t moves read word k p e g = Works moves left read now word k p e g (grind (arith, g))
+work_row AllDone h t moves read word k p e g = EndsJob moves read word k p e g (grind (arith, g))
 
 row_at : (p : CallPlace) (o : Option KernelState) (h : HartState) (t : HartTold) → h.place ≡ p → h.kernel ≡ o → Turned h t (place_told p o h t)
 row_at Outside o h (Box box) p e = InGuest (heard.Box box) p refl
@@ -68,9 +68,9 @@ gate_row s n h frame only None a e = Stayed refl
 gate_row s n h frame only (Some gate) a e = shut_row (is_shut gate) (is_wanted only gate.version) refl refl
   where
     shut_row : (shut wanted : Bool) → is_shut gate ≡ shut → is_wanted only gate.version ≡ wanted → Did s n (takes_gate s n h frame only (Some gate))
-    shut_row true wanted f g = Stayed (grind (f))
-    shut_row false true f g = TookGate h frame only gate a e f g (grind (f, g))
-    shut_row false false f g = FoundOldVersion h frame only gate a e f g (grind (f, g))
+    shut_row true wanted f g = Stayed (grind (arith, f))
+    shut_row false true f g = TookGate h frame only gate a e f g (grind (arith, f, g))
+    shut_row false false f g = FoundOldVersion h frame only gate a e f g (grind (arith, f, g))
 
 take_row : (s : State) (n : ℕ) (h : HartState) (o : Option KernelState) → Asks s n h does.TakeKernel → s.kernel ≡ o → Did s n (takes_kernel s n h o)
 take_row s n h None a e = Stayed refl

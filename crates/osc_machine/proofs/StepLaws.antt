@@ -1,5 +1,5 @@
 -- Steps that stay, and what a step leaves alone.
-use Rattle.std.proofs.Common.{ℕ, ◌≡◌, ◌≢◌, Bool, true, false, if◌then◌else◌, Option, Some, None, List, slice_get, slice_set, ◌+◌, ◌*◌, arith, refl, sym, ap, subst, ◌∙◌}
+use Rattle.std.proofs.Common.{ℕ, ◌≡◌, ◌≢◌, Bool, true, false, if◌then◌else◌, Option, Some, None, List, length, slice_get, slice_set, ◌+◌, ◌*◌, arith, refl, sym, ap, subst, ◌∙◌}
 use Rattle.std.proofs.lemmas.Bool.Decides.{nat_tests}
 use Rattle.std.proofs.lemmas.List.{length-set}
 use Rattle.osc_sv39.specs.Walk.{put_word}
@@ -25,12 +25,9 @@ rest_stays s n h e r = ap (step_of s n) e ∙ ap (acted s n h) r
 
 busy_at : (p : CallPlace) (o : Option KernelState) (h : HartState) → place_told p o h Busy ≡ quietly h
 busy_at Outside o h = refl
-busy_at (TakingBoxes box) o h = refl
-busy_at (FirstWord first second) o h = refl
-busy_at (SecondWord found second) o h = refl
-busy_at (Working moves read) o h = refl
-busy_at (GivingBoxes box) o h = refl
 busy_at (Returning return) o h = refl
+busy_at _ None h = refl
+busy_at _ (Some k) h = refl
 
 pub busy_keeps : BusyKeeps
 unfolding hart_told

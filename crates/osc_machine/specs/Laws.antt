@@ -17,7 +17,6 @@ use Rattle.osc_calls.specs.Begin.{begin}
 use Rattle.osc_calls.specs.Plan.{plan}
 use Rattle.osc_calls.specs.JobDone.{job_done}
 use Rattle.osc_calls.specs.Finish.{finish}
-use Rattle.osc_calls.specs.MarkLaws.{KeepsMarks}
 use Rattle.osc_machine.specs.declared.HartAsk.{HartAsk}
 use Rattle.osc_machine.specs.declared.HartAsk.TheVariants as does
 use Rattle.osc_machine.specs.Parts.{Gate, CallPlace, Outside, TakingBoxes, FirstWord, SecondWord, Working, GivingBoxes, Returning, HartState, State}
@@ -171,25 +170,6 @@ KernelSeen = (s : State) (k : KernelState) → HasKernel s k → kernel_of s ≡
 
 abbrev pub StartHasKernel : Type 0
 StartHasKernel = (image : Image) (config : Config) (k : KernelState) → HasKernel (started image config k) k
-
--- ---- marks
--- no process is dropped, and the mark of none falls
-pub record MarksRiseIn (s : State) (k : KernelState) : Type 0 where
-  pub last : KernelState
-  pub has : HasKernel s last
-  pub rise : KeepsMarks k last
-
-abbrev pub MarksRiseInSteps : Type 0
-MarksRiseInSteps = (s : State) (n : ℕ) (k : KernelState) → HasKernel s k → MarksRiseIn (step s n).state k
-
--- from a state on, and so from the start
-abbrev pub MarksRiseInRuns : Type 0
-MarksRiseInRuns =
-    (s : State) (picks : List ℕ) (k : KernelState) → HasKernel s k → MarksRiseIn (run s picks).state k
-
-abbrev pub MarksRiseFromStart : Type 0
-MarksRiseFromStart =
-    (image : Image) (config : Config) (k : KernelState) (picks : List ℕ) → MarksRiseIn (run (started image config k) picks).state k
 
 -- ---- counts
 abbrev pub is_of : ℕ → Event → Bool
