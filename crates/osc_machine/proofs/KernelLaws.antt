@@ -171,14 +171,16 @@ hand_of_row h t turn a g e p q (InGuest said pl i) = rw i (record { follows = fo
 hand_of_row h t turn a g e p q (TakesKernel k asked pl tk wa i) = absurd (subst IsPlain tk q)
 hand_of_row h t turn a g e p q (TakesBox box state k pl ke tk last i) = rw i (hand_to h.kernel k k _ ke (Same refl) refl refl)
 hand_of_row h t turn a g e p q (TakesLastBox box state k pl ke tk last i) =
-    rw i (hand_to h.kernel k (plan (found_words 0 0) k).kernel _ ke (Plans (found_words 0 0) refl) refl (on_in_call _ _))
+    rw i (hand_to h.kernel k (plan (found_words 0 0) k).kernel _ ke (Plans (found_words 0 0) refl) refl
+    (on_in_call (plan (found_words 0 0) k).kernel (slice_set h.boxes box (Some state))))
 hand_of_row h t turn a g e p q (FindsFirst first second word k pl ke tk i) = rw i (hand_to h.kernel k k _ ke (Same refl) ke refl)
 hand_of_row h t turn a g e p q (FindsSecond found word second k pl ke tk i) =
-    rw i (hand_to h.kernel k (plan (found_words found word) k).kernel _ ke (Plans (found_words found word) refl) refl (on_in_call _ _))
+    rw i (hand_to h.kernel k (plan (found_words found word) k).kernel _ ke (Plans (found_words found word) refl) refl
+    (on_in_call (plan (found_words found word) k).kernel h.boxes))
 hand_of_row h t turn a g e p q (Works moves left read now word k pl ke pr i) = rw i (hand_to h.kernel k k _ ke (Same refl) refl refl)
 hand_of_row h t turn a g e p q (EndsJob moves read word k pl ke pr i) =
-    rw i (hand_to h.kernel k (job_done word k).kernel _ ke (Ends word refl) refl (on_in_call _ _))
-hand_of_row h t turn a g e p q (GivesBox box k pl ke tk i) = rw i (hand_to h.kernel k k _ ke (Same refl) refl (on_in_call k _))
+    rw i (hand_to h.kernel k (job_done word k).kernel _ ke (Ends word refl) refl (on_in_call (job_done word k).kernel h.boxes))
+hand_of_row h t turn a g e p q (GivesBox box k pl ke tk i) = rw i (hand_to h.kernel k k _ ke (Same refl) refl (on_in_call k (slice_set h.boxes box None)))
 hand_of_row h t turn a g e p q (GivesKernel return pl tk i) = absurd (subst IsPlainAsk (sym e ∙ returning_asks h return pl) p)
 
 -- ---- the whole state, where one hart turns

@@ -4,3 +4,4 @@ pub mod RunLaws
 pub mod KernelLaws
 pub mod JournalLaws
 pub mod AccessLaws
+pub mod CountLaws

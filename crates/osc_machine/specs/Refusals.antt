@@ -15,14 +15,14 @@ use Rattle.osc_word.specs.Environment.{thread_limit}
 use Rattle.osc_class.specs.declared.Room.{Room}
 use Rattle.osc_class.specs.Rooms.{room_of, shadow_pages}
 use Rattle.osc_image.specs.Image.{Image, pages}
-use Rattle.osc_image.specs.Frames.{stack_pages}
+use Rattle.osc_image.specs.Frames.{stack_pages, table_count}
 use Rattle.osc_slot.specs.declared.Block.{Block}
 use Rattle.osc_slot.specs.Slots.{is_room, need}
 use Rattle.osc_slot.specs.Heap.{block_of_user}
 use Rattle.osc_space.specs.Objects.{Seen, mark, next_page, object_at, leaf_given_up}
 use Rattle.osc_space.specs.Header.{block_of}
 use Rattle.osc_space.specs.Space.{Reason, reason, first_reason}
-use Rattle.osc_space.specs.Used.{tables_below, frames_used}
+use Rattle.osc_space.specs.Used.{frames_used}
 use Rattle.osc_calls.specs.Kernel.{KernelState, idle_hart}
 use Rattle.osc_machine.specs.Parts.{State}
 use Rattle.osc_machine.specs.Run.{at}
@@ -37,10 +37,6 @@ pub record Setting : Type 0 where
 -- of the runs of an image
 abbrev pub setting_of : Image → Config → Setting
 setting_of image config = record { config = config; image = pages image }
-
--- the level of the topmost page table
-abbrev pub top_level : Setting → ℕ
-top_level s = s.config.levels - 1
 
 -- ---- the frames in use
 abbrev pub region_pages : List Region → ℕ
@@ -61,7 +57,7 @@ given_up l =
 
 -- the frames of a process but those of its regions: its tables and its data
 abbrev pub process_frames : Setting → Ledger → ℕ
-process_frames s l = frames_used (top_level s) (ever_mapped s l) (given_up l) (length s.image) s.config.frames l.held
+process_frames s l = frames_used s.config.levels (ever_mapped s l) (given_up l) (length s.image) s.config.frames l.held
 
 abbrev pub living_frames : Setting → Ledger → ℕ
 living_frames s l = if l.over then 0 else process_frames s l
@@ -83,7 +79,7 @@ unused s ledgers = s.config.frames - used s ledgers
 -- the tables that so many pages from this one on newly take
 abbrev pub new_tables : Setting → Ledger → ℕ → ℕ → ℕ
 new_tables s l first count =
-    tables_below (top_level s) (range_with_len first count ++ ever_mapped s l) - tables_below (top_level s) (ever_mapped s l)
+    table_count s.config.levels (range_with_len first count ++ ever_mapped s l) - table_count s.config.levels (ever_mapped s l)
 
 -- ---- the reasons of each call, in their order
 -- so many frames, and the tables of so many pages from this one on, are more than the unused ones
