@@ -13,3 +13,5 @@ pub mod Refusals
 pub mod Agreements
 pub mod Due
 pub mod Laws
+pub mod Rows
+pub mod Worked

@@ -3,6 +3,9 @@
 //! types; the definitions stand in `specs/`, and the laws that show what they mean in `laws`.
 #![tactic(auto)]
 
+pub mod laws;
+pub mod rows;
+pub mod worked;
 
 use osc_word::{Frame, WordAt};
 
