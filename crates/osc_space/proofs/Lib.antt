@@ -1,0 +1,4 @@
+pub mod RefusalLawProofs
+pub mod ObjectLawProofs
+pub mod WordLawProofs
+pub mod AgreeExampleProofs
