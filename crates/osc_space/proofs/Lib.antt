@@ -1,3 +1,4 @@
+pub mod PlanLawProofs
 pub mod RefusalLawProofs
 pub mod ObjectLawProofs
 pub mod WordLawProofs

@@ -12,7 +12,7 @@ use Rattle.osc_slot.specs.Heap.{free_count, next_block, block_of_user}
 use Rattle.osc_space.specs.declared.ObjectState.{ObjectState}
 use Rattle.osc_space.specs.declared.ObjectState.TheVariants.{Live, Dead}
 use Rattle.osc_space.specs.Objects.{Seen, mark, next_page, object_at}
-use Rattle.osc_space.specs.Space.{Space, Draft, Terms, Outcome, Reason, reason, first_reason, unless, unchanged}
+use Rattle.osc_space.specs.Space.{Space, Draft, Terms, Outcome, Reason, reason, first_reason, unless, unchanged, lack_of_frames}
 use Rattle.osc_space.specs.Header.{Found, death_reasons, damage_reason, object_reasons}
 use Rattle.osc_space.specs.Malloc.{memory_reasons, malloc_reasons, malloc_in, malloc_plan}
 use Rattle.osc_space.specs.Free.{let_wait, freed, free_seen, free_plan}
@@ -106,11 +106,14 @@ one_is : (b p : Bool) (x : Answer) → b ≡ p → first_reason (reason b x ∷ 
 one_is b p x e = one b x ∙ rw e refl
 
 pub refused_for_want : (d : Draft) (frames pages : ℕ) → RefusedForWant d frames pages
-refused_for_want d frames pages = record {
-  shadows = λ h. first_is _ _ _ (grind (arith, nat_tests, h));
-  lack = λ h w. two_are _ _ false true _ _ (grind (arith, nat_tests, h)) (grind (arith, nat_tests, w));
-  none = λ h w. two_are _ _ false false _ _ (grind (arith, nat_tests, h)) (grind (arith, nat_tests, w));
-}
+refused_for_want d frames pages =
+    let over = nat_lt d.space.shadows (mark d.space.objects + pages) in
+    let lacks = nat_lt (free_count d.free) (frames + need d.space.tables (next_page d.space.objects) pages) in
+    record {
+      shadows = λ h. first_is over (lack_of_frames d.free d.space.tables frames (next_page d.space.objects) pages ∷ []) answer.NoShadow (grind (arith, nat_tests, h));
+      lack = λ h w. two_are over lacks false true answer.NoShadow answer.NoFrames (grind (arith, nat_tests, h)) (grind (arith, nat_tests, w));
+      none = λ h w. two_are over lacks false false answer.NoShadow answer.NoFrames (grind (arith, nat_tests, h)) (grind (arith, nat_tests, w));
+    }
 
 pub plain_refused : (n : ℕ) (d : Draft) → PlainRefused n d
 plain_refused n d = record {
@@ -127,11 +130,13 @@ fork_refused s free = record {
 
 pub share_refused : (n : ℕ) (s : Sharing) → ShareRefused n s
 unfolding share_reasons
-share_refused n s = record {
-  empty = λ e. first_is _ _ _ (grind (arith, nat_tests, e));
-  lack = λ h w. two_are _ _ false true _ _ (grind (arith, nat_tests, h)) (grind (arith, nat_tests, w));
-  none = λ h w. two_are _ _ false false _ _ (grind (arith, nat_tests, h)) (grind (arith, nat_tests, w));
-}
+share_refused n s =
+    let lacks = nat_lt (free_count s.free) (n + need s.tables (next_shared_page s.tables) n) in
+    record {
+      empty = λ e. first_is (n == 0) (lack_of_frames s.free s.tables n (next_shared_page s.tables) n ∷ []) answer.Empty (grind (arith, nat_tests, e));
+      lack = λ h w. two_are (n == 0) lacks false true answer.Empty answer.NoFrames (grind (arith, nat_tests, h)) (grind (arith, nat_tests, w));
+      none = λ h w. two_are (n == 0) lacks false false answer.Empty answer.NoFrames (grind (arith, nat_tests, h)) (grind (arith, nat_tests, w));
+    }
 
 -- ---- objects
 by_state : (s : Seen) (found : Found) (state : ObjectState) → s.fact.state ≡ state
@@ -140,30 +145,37 @@ by_state s found state e =
     ap (λ x. first_reason (death_reasons s.number x ++ damage_reason s.fact.canon found.first ∷ damage_reason s.fact.size found.second ∷ [])) e
 
 pub object_refused : (s : Seen) (found : Found) → ObjectRefused s found
-object_refused s found = record {
-  dead = λ call e. by_state s found (Dead call) e;
-  first = λ e f. by_state s found Live e ∙ first_is _ _ _ (grind (arith, nat_tests, f));
-  second = λ e f g. by_state s found Live e ∙ two_are _ _ false true _ _ (grind (arith, nat_tests, f)) (grind (arith, nat_tests, g));
-  none = λ e f g. by_state s found Live e ∙ two_are _ _ false false _ _ (grind (arith, nat_tests, f)) (grind (arith, nat_tests, g));
-}
+object_refused s found =
+    let first = not (s.fact.canon == found.first) in
+    let second = not (s.fact.size == found.second) in
+    let a = answer.HeaderDamaged s.fact.canon found.first in
+    let b = answer.HeaderDamaged s.fact.size found.second in
+    record {
+      dead = λ call e. by_state s found (Dead call) e;
+      first = λ e f. by_state s found Live e ∙ first_is first (reason second b ∷ []) a (grind (arith, nat_tests, f));
+      second = λ e f g. by_state s found Live e ∙ two_are first second false true a b (grind (arith, nat_tests, f)) (grind (arith, nat_tests, g));
+      none = λ e f g. by_state s found Live e ∙ two_are first second false false a b (grind (arith, nat_tests, f)) (grind (arith, nat_tests, g));
+    }
 
 append_some : (xs ys : List Reason) (a : Answer) → first_reason xs ≡ Some a → first_reason (xs ++ ys) ≡ Some a
 append_some [] ys a e = cc
-append_some (x ∷ xs) ys a e = go x.holds e
+append_some (x ∷ xs) ys a e = go x.holds e (append_some xs ys a)
   where
     go : (b : Bool) → option_map (λ (r : Reason). r.answer) (cond b (Some x) (find (λ (r : Reason). r.holds) xs)) ≡ Some a
+        → (first_reason xs ≡ Some a → first_reason (xs ++ ys) ≡ Some a)
         → option_map (λ (r : Reason). r.answer) (cond b (Some x) (find (λ (r : Reason). r.holds) (xs ++ ys))) ≡ Some a
-    go true f = f
-    go false f = append_some xs ys a f
+    go true f rest = f
+    go false f rest = rest f
 
 append_none : (xs ys : List Reason) → first_reason xs ≡ None → first_reason (xs ++ ys) ≡ first_reason ys
 append_none [] ys e = refl
-append_none (x ∷ xs) ys e = go x.holds e
+append_none (x ∷ xs) ys e = go x.holds e (append_none xs ys)
   where
     go : (b : Bool) → option_map (λ (r : Reason). r.answer) (cond b (Some x) (find (λ (r : Reason). r.holds) xs)) ≡ None
+        → (first_reason xs ≡ None → first_reason (xs ++ ys) ≡ first_reason ys)
         → option_map (λ (r : Reason). r.answer) (cond b (Some x) (find (λ (r : Reason). r.holds) (xs ++ ys))) ≡ first_reason ys
-    go true f = cc
-    go false f = append_none xs ys f
+    go true f rest = cc
+    go false f rest = rest f
 
 pub realloc_refused : (s : Seen) (n : ℕ) (found : Found) (d : Draft) → ReallocRefused s n found d
 realloc_refused s n found d = record {
@@ -182,11 +194,11 @@ Refuses (Some a) = is_refusal a ≡ true
 
 first_refuses : (reasons : List Reason) → AreRefusals reasons → Refuses (first_reason reasons)
 first_refuses [] h = tt
-first_refuses (x ∷ xs) h = go x.holds
+first_refuses (x ∷ xs) h = go x.holds (first_refuses xs h.1)
   where
-    go : (b : Bool) → Refuses (option_map (λ (r : Reason). r.answer) (cond b (Some x) (find (λ (r : Reason). r.holds) xs)))
-    go true = h.0
-    go false = first_refuses xs h.1
+    go : (b : Bool) → Refuses (first_reason xs) → Refuses (option_map (λ (r : Reason). r.answer) (cond b (Some x) (find (λ (r : Reason). r.holds) xs)))
+    go true later = h.0
+    go false later = later
 
 -- an answer that is no refusal is that of what was made
 pub is_made : (reasons : List Reason) (d : Draft) (made : Outcome) (a : Answer) → AreRefusals reasons → is_refusal a ≡ false → (unless (first_reason reasons) d made).answer ≡ a → unless (first_reason reasons) d made ≡ made
