@@ -51,6 +51,11 @@ unmap_emptied (page ∷ pages) harts d = push (clear_jobs harts) (change (unmap_
 abbrev pub let_go_plain : ℕ → Block → Draft → Draft
 let_go_plain harts block d = unmap_emptied (emptied_pages d.space.heap.held block) harts d
 
+-- no block starts there
+abbrev pub block_reasons : Option Block → List Reason
+block_reasons None = reason true NotAnObject ∷ []
+block_reasons (Some block) = []
+
 abbrev pub plain_free_of : Option Block → ℕ → Draft → Outcome
 plain_free_of None harts d = unchanged NotAnObject d
 plain_free_of (Some block) harts d =
@@ -85,9 +90,9 @@ abbrev pub plain_resize : Bool → ℕ → Block → ℕ → ℕ → Draft → O
 plain_resize true harts block n bytes d = plain_stay block n bytes d
 plain_resize false harts block n bytes d = plain_move harts block n bytes (next_block d.space.heap (room_of n)) d
 
--- no block starts there, or there is no room for one to move to
+-- where the block does not stay, another is wanted
 abbrev pub plain_realloc_reasons : Option Block → ℕ → Draft → List Reason
-plain_realloc_reasons None n d = reason true NotAnObject ∷ []
+plain_realloc_reasons None n d = block_reasons None
 plain_realloc_reasons (Some block) n d = if is_room (room_of n) block.room then [] else plain_reasons (room_of n) d
 
 abbrev pub plain_realloc_of : Option Block → ℕ → ℕ → ℕ → Draft → Outcome

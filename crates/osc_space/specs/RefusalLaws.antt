@@ -1,18 +1,18 @@
 -- The laws of refusals: a plan is refused exactly for the first of its reasons, which are wants in plain numbers.
-use Rattle.std.specs.Prelude.{ℕ, ◌+◌, ◌≡◌, ◌≢◌, ◌<◌, ◌≤◌, Bool, true, false, Option, Some, None, List, length}
+use Rattle.std.specs.Prelude.{ℕ, ◌+◌, ◌≡◌, ◌≢◌, ◌<◌, ◌≤◌, ◌/◌, Bool, true, false, Option, Some, None, List, length}
 use Rattle.osc_word.specs.declared.calls.Answer.{Answer}
 use Rattle.osc_word.specs.declared.calls.Answer.TheVariants as answer
 use Rattle.osc_class.specs.Rooms.{room_of, shadow_pages}
 use Rattle.osc_paging.specs.KeptTables.{need}
-use Rattle.osc_slot.specs.Heap.{free_count, block_of_user}
+use Rattle.osc_slot.specs.Heap.{free_count, next_block, block_of_user}
 use Rattle.osc_space.specs.declared.ObjectState.TheVariants.{Live, Dead}
 use Rattle.osc_space.specs.Objects.{Seen, mark, next_page, object_at}
-use Rattle.osc_space.specs.Space.{Space, Draft, Terms, Outcome, Reason, first_reason, unchanged, lack_of_frames}
+use Rattle.osc_space.specs.Space.{Space, Draft, Terms, Outcome, Reason, first_reason, unchanged}
 use Rattle.osc_space.specs.Header.{Found, object_reasons}
-use Rattle.osc_space.specs.Malloc.{memory_reasons, malloc_reasons, malloc_plan}
+use Rattle.osc_space.specs.Malloc.{memory_reasons, block_need, malloc_reasons, malloc_plan}
 use Rattle.osc_space.specs.Free.{free_plan}
 use Rattle.osc_space.specs.Realloc.{stays, frames_for, realloc_reasons, realloc_plan}
-use Rattle.osc_space.specs.PlainHeap.{plain_reasons, plain_realloc_reasons, plain_malloc_plan, plain_free_plan, plain_realloc_plan}
+use Rattle.osc_space.specs.PlainHeap.{block_reasons, plain_reasons, plain_realloc_reasons, plain_malloc_plan, plain_free_plan, plain_realloc_plan}
 use Rattle.osc_space.specs.Fork.{private_frames, fork_reasons}
 use Rattle.osc_space.specs.Share.{Sharing, next_shared_page, share_reasons}
 
@@ -37,6 +37,8 @@ pub record PlansGoByReasons : Type 0 where
   pub realloc : (terms : Terms) (pointer n : ℕ) (found : Found) (d : Draft)
       → GoesByReasons (realloc_reasons (object_at d.space.objects pointer) n found d) d (realloc_plan terms pointer n found d)
   pub plain_malloc : (n : ℕ) (d : Draft) → GoesByReasons (plain_reasons (room_of n) d) d (plain_malloc_plan n d)
+  pub plain_free : (harts pointer : ℕ) (d : Draft)
+      → GoesByReasons (block_reasons (block_of_user d.space.heap.held pointer)) d (plain_free_plan harts pointer d)
   pub plain_realloc : (harts pointer n size : ℕ) (d : Draft)
       → GoesByReasons (plain_realloc_reasons (block_of_user d.space.heap.held pointer) n d) d (plain_realloc_plan harts pointer n size d)
 
@@ -53,13 +55,6 @@ pub record RefusalsKeep : Type 0 where
   pub plain_realloc : (harts pointer n size : ℕ) → RefusalKeeps (plain_realloc_plan harts pointer n size)
 
 -- ---- the reasons
--- so many frames and the tables that are missing over so many pages are more than the free ones
-pub record LackMeans (free : List Bool) (s : Space) (frames first count : ℕ) : Type 0 where
-  pub lack : free_count free < frames + need s.tables first count
-      → (lack_of_frames free s.tables frames first count).holds ≡ true
-  pub none : frames + need s.tables first count ≤ free_count free
-      → (lack_of_frames free s.tables frames first count).holds ≡ false
-
 -- so many block frames and shadow pages are refused exactly for want, and first of shadow pages
 pub record RefusedForWant (d : Draft) (frames pages : ℕ) : Type 0 where
   pub shadows : d.space.shadows < mark d.space.objects + pages
@@ -89,6 +84,16 @@ pub record ReallocRefused (s : Seen) (n : ℕ) (found : Found) (d : Draft) : Typ
   pub want : first_reason (object_reasons (Some s) found) ≡ None
       → first_reason (realloc_reasons (Some s) n found d)
       ≡ first_reason (memory_reasons (frames_for (stays s.fact n) n d) (shadow_pages (room_of n)) d)
+
+-- a plain malloc wants the frames of its block, and the tables over those pages
+abbrev pub plain_want : ℕ → Draft → ℕ
+plain_want n d =
+    block_need d (room_of n)
+    + need d.space.tables ((next_block d.space.heap (room_of n)).start / 4096) (block_need d (room_of n))
+
+pub record PlainRefused (n : ℕ) (d : Draft) : Type 0 where
+  pub lack : free_count d.free < plain_want n d → first_reason (plain_reasons (room_of n) d) ≡ Some answer.NoFrames
+  pub none : plain_want n d ≤ free_count d.free → first_reason (plain_reasons (room_of n) d) ≡ None
 
 pub record ForkRefused (s : Space) (free : List Bool) : Type 0 where
   pub lack : free_count free < length (private_frames s (length free)) → first_reason (fork_reasons s free) ≡ Some answer.NoFrames

@@ -1,0 +1,5 @@
+pub mod PlanLawProofs
+pub mod RefusalLawProofs
+pub mod ObjectLawProofs
+pub mod WordLawProofs
+pub mod AgreeExampleProofs
