@@ -9,7 +9,7 @@ use Rattle.osc_calls.specs.declared.Begun.{Begun}
 use Rattle.osc_calls.specs.declared.Begun.TheVariants.{Again, JournalFull, Gone, Boxes, Planned}
 use Rattle.osc_calls.specs.Kernel.{KernelState, Process, Calling, UnderWay, Retrying, Leaving, Waiting, Shown, process_at, is_last, has_journal_room}
 use Rattle.osc_calls.specs.Requests.{calling_of, meant, is_ready}
-use Rattle.osc_calls.specs.Refusals.{refusal}
+use Rattle.osc_calls.specs.Refusals.{refusal_of}
 use Rattle.osc_calls.specs.HeapPlans.{free_need, realloc_need}
 use Rattle.osc_calls.specs.Plan.{plan}
 
@@ -28,8 +28,8 @@ need_of c p kernel (calls.Exit status) = Boxes
 need_of c p kernel (calls.Write buf len) = Boxes
 need_of c p kernel (calls.End fault) = Boxes
 need_of c p kernel (calls.Done value) = boxes_where (is_last kernel.records c.pid)
-need_of c p kernel calls.Fork = boxes_where (is_none (refusal c p kernel))
-need_of c p kernel (calls.Share count) = boxes_where (is_none (refusal c p kernel))
+need_of c p kernel calls.Fork = boxes_where (is_none (refusal_of calls.Fork p kernel))
+need_of c p kernel (calls.Share count) = boxes_where (is_none (refusal_of (calls.Share count) p kernel))
 need_of c p kernel (calls.Free pointer) = free_need kernel.config.heap p.space pointer
 need_of c p kernel (calls.Realloc pointer size) = realloc_need kernel.config.heap p.space pointer
 need_of c p kernel _ = Planned

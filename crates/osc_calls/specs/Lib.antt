@@ -17,3 +17,8 @@ pub mod Boxes
 pub mod JobDone
 pub mod Finish
 pub mod Open
+pub mod MoveLaws
+pub mod CallLaws
+pub mod ObjectLaws
+pub mod LabelLaws
+pub mod Examples

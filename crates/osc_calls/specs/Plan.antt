@@ -9,7 +9,7 @@ use Rattle.osc_space.specs.Header.{Found}
 use Rattle.osc_calls.specs.Threads.{join_look}
 use Rattle.osc_calls.specs.Kernel.{KernelState, Process, Calling, UnderWay, Waiting, Returning, Shown, process_at, in_use}
 use Rattle.osc_calls.specs.Requests.{meant, wait_look, join_answer, wait_answer}
-use Rattle.osc_calls.specs.Refusals.{draft_of, refusal}
+use Rattle.osc_calls.specs.Refusals.{draft_of, refusal_of}
 use Rattle.osc_calls.specs.Labels.{plan_shows}
 use Rattle.osc_calls.specs.Planned.{Planned, answered, planned_unless, outcome_planned}
 use Rattle.osc_calls.specs.HeapPlans.{terms_of, malloc_by, free_of, realloc_by}
@@ -26,13 +26,15 @@ plan_meant found c p kernel (calls.Free pointer) =
     outcome_planned c.pid p kernel (free_of kernel.config.heap (terms_of kernel) pointer found (draft_of kernel p))
 plan_meant found c p kernel (calls.Realloc pointer size) =
     outcome_planned c.pid p kernel (realloc_by kernel.config.heap (terms_of kernel) pointer size found (draft_of kernel p))
-plan_meant found c p kernel calls.Fork = planned_unless (refusal c p kernel) kernel (fork_done c p kernel)
+plan_meant found c p kernel calls.Fork =
+    planned_unless (refusal_of calls.Fork p kernel) kernel (fork_done c p kernel)
 plan_meant found c p kernel (calls.Spawn pc sp arg) =
-    planned_unless (refusal c p kernel) kernel (spawn_done c p pc sp arg kernel)
+    planned_unless (refusal_of (calls.Spawn pc sp arg) p kernel) kernel (spawn_done c p pc sp arg kernel)
 plan_meant found c p kernel (calls.Join number) =
     answered (unwrap_or (join_answer (join_look kernel.threads c.pid number)) answers.Unknown) kernel
 plan_meant found c p kernel (calls.Done value) = done_plan c value kernel
-plan_meant found c p kernel (calls.Share count) = planned_unless (refusal c p kernel) kernel (share_done c p count kernel)
+plan_meant found c p kernel (calls.Share count) =
+    planned_unless (refusal_of (calls.Share count) p kernel) kernel (share_done c p count kernel)
 plan_meant found c p kernel (calls.Wait number) =
     answered (unwrap_or (wait_answer (wait_look kernel c.pid number)) answers.Unknown) kernel
 plan_meant found c p kernel (calls.Unknown number) = answered answers.Unknown kernel

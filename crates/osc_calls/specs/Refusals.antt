@@ -66,9 +66,12 @@ reasons_of (Spawn pc sp arg) p kernel = no_hart kernel ∷ no_thread kernel ∷ 
 reasons_of (Share count) p kernel = share_reasons count (sharing_of kernel p)
 reasons_of _ p kernel = []
 
+-- the answer of a call that is refused
+abbrev pub refusal_of : Call → Process → KernelState → Option Answer
+refusal_of call p kernel = first_reason (reasons_of call p kernel)
+
 abbrev pub call_reasons : Calling → Process → KernelState → List Reason
 call_reasons c p kernel = reasons_of (meant c.call) p kernel
 
--- the answer of a call that is refused
 abbrev pub refusal : Calling → Process → KernelState → Option Answer
-refusal c p kernel = first_reason (call_reasons c p kernel)
+refusal c p kernel = refusal_of (meant c.call) p kernel

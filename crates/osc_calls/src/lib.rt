@@ -3,6 +3,9 @@
 //! in `specs/`; the plain types that they give are declared here.
 #![tactic(auto)]
 
+pub mod examples;
+pub mod laws;
+
 use osc_word::{Fault, Order, WordAt};
 
 /// What the kernel answers where a hart has taken it.
