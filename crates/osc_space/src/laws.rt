@@ -63,7 +63,7 @@ pub fn mark_never_falls()
 /// A free's object waits, and no block and no frame is given back before the call returns. Where a
 /// batch waits the last jobs clear the box of each hart, and the blocks of all that wait are to be given back
 /// in the order of their calls; where a batch is one, each free does so.
-#[tactic(auto, using(crate::proofs::PlanLawProofs::clears_each_box, crate::proofs::PlanLawProofs::frees_wait, crate::proofs::PlanLawProofs::batches_of_one_flush))]
+#[tactic(auto, using(crate::proofs::PlanLawProofs::clears_each_box, crate::proofs::PlanLawProofs::batches_of_one_flush))]
 pub fn frees_wait_for_clears()
     ensures clears { ClearsEachBox }
     ensures waits { FreesWait }
@@ -79,7 +79,6 @@ pub fn reallocs_flush()
 {}
 
 /// A flush gives up exactly the leaf tables that are dead and linked, over the objects that are let go.
-#[tactic(auto, using(crate::proofs::PlanLawProofs::flush_gives_up))]
 pub fn flushes_give_up_dead_leaves()
     ensures { (harts : ℕ) (gone : List ObjectFact) (d : Draft) → FlushGivesUp harts gone d }
 {}
@@ -101,7 +100,6 @@ pub fn no_piece_crosses_a_frame()
 
 /// A child shares no private frame with its parent: each stands for a frame of its own that was free
 /// and is taken, those of blocks that wait too.
-#[tactic(auto, using(crate::proofs::ForkLawProofs::forks_apart))]
 pub fn forks_share_no_private_frame()
     ensures { ForksApart }
 {}
