@@ -5,3 +5,4 @@ pub mod KernelLaws
 pub mod JournalLaws
 pub mod AccessLaws
 pub mod CountLaws
+pub mod GivingLaws

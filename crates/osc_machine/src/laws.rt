@@ -9,6 +9,7 @@ ghost use Rattle.osc_machine.specs.Laws.{
   RestStays,
   BusyKeeps,
   TakenStays,
+  GivingLooksAway,
   OthersStay,
   SizesStay,
   RunsJoin,
@@ -41,6 +42,11 @@ pub fn stays_exactly()
 pub fn steps_go_by_rows()
     ensures turns { TurnsByRow }
     ensures steps { StepsByRow }
+{}
+
+/// What a hart makes of a giving doesn't look at what was given.
+pub fn giving_looks_away()
+    ensures { GivingLooksAway }
 {}
 
 /// A step of a hart changes no other hart, one thing that the harts share at most, and no size of the
