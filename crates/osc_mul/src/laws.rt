@@ -1,6 +1,6 @@
 //! Laws of the products, quotients and remainders, for every two registers.
 
-ghost use Rattle.std.specs.Prelude.{◌≡◌, ◌≢◌, ◌+◌, ◌*◌, ◌-◌, ◌%◌, ◌^◌, pos, ◌+ℤ◌, ◌*ℤ◌};
+ghost use Rattle.std.specs.Prelude.{◌≡◌, ◌≢◌, ◌+◌, ◌*◌, ◌-◌, ◌%◌, ◌^◌, ℤ, pos, ◌+ℤ◌, ◌*ℤ◌};
 ghost use Rattle.osc_rv.specs.declared.instr.MulOp.TheVariants.{Mul, Mulh, Mulhsu, Mulhu, Div, Divu, Rem, Remu, Mulw, Divw, Divuw, Remw, Remuw};
 ghost use Rattle.osc_isa.specs.Multiply.{muldiv, signed_word, unsigned_word};
 ghost use Rattle.osc_isa.specs.Numbers.{signed, word};
@@ -40,6 +40,11 @@ pub fn signed_quotient_of_words(a: u64, b: u64)
 pub fn unsigned_quotient_of_words(a: u64, b: u64)
     requires divisor { b % 2 ^ 32 ≢ 0 }
     ensures { Divided (unsigned_word a) (unsigned_word b) (unsigned_word (muldiv Divuw a b)) (unsigned_word (muldiv Remuw a b)) }
+{}
+
+/// A number over another has one quotient and one remainder.
+pub fn one_quotient_and_remainder()
+    ensures { (a b q r s t : ℤ) → Divided a b q r → Divided a b s t → (q ≡ s) × (r ≡ t) }
 {}
 
 /// By 0 the quotient has every bit set, and the remainder is the dividend.
