@@ -1,6 +1,6 @@
 //! What a product, a quotient or a remainder is, by what two registers hold.
 
-ghost use Rattle.std.specs.Prelude.{◌≡◌, pos};
+ghost use Rattle.std.specs.Prelude.{◌≡◌, pos, ◌*ℤ◌};
 ghost use Rattle.osc_isa.specs.Multiply as multiply;
 ghost use Rattle.osc_isa.specs.Numbers as numbers;
 
@@ -16,7 +16,7 @@ pub fn mul_value(op: MulOp, a: u64, b: u64) -> u64
     match op {
         MulOp::Mul => a.wrapping_mul(b),
         MulOp::Mulh => high_bits(i128::from(signed_a) * i128::from(signed_b)),
-        MulOp::Mulhsu => high_bits(i128::from(signed_a) * i128::from(b)),
+        MulOp::Mulhsu => high_bits(mixed_product(signed_a, b)),
         MulOp::Mulhu => unsigned_high_bits(u128::from(a) * u128::from(b)),
         MulOp::Div => quotient(signed_a, signed_b),
         MulOp::Divu => unsigned_quotient(a, b),
@@ -28,6 +28,12 @@ pub fn mul_value(op: MulOp, a: u64, b: u64) -> u64
         MulOp::Remw => word(remainder(signed_word(a), signed_word(b))),
         MulOp::Remuw => word(unsigned_remainder(unsigned_word(a), unsigned_word(b))),
     }
+}
+
+fn mixed_product(a: i64, b: u64) -> i128
+    ensures { result ≡ a *ℤ pos b }
+{
+    i128::from(a) * i128::from(b)
 }
 
 /// Bits 127 to 64 of a product of which a factor is signed.
