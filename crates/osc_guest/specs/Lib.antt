@@ -1,11 +1,9 @@
 pub mod User
 pub mod Accesses
+pub mod Asks
 pub mod Looking
-pub mod Calls
 pub mod Instructions
 pub mod Orders
-pub mod Asks
 pub mod Told
 pub mod Fits
-pub mod Laws
-pub mod Worked
+pub mod Hands
