@@ -7,3 +7,4 @@ pub mod Orders
 pub mod Told
 pub mod Fits
 pub mod Hands
+pub mod Laws
