@@ -7,4 +7,6 @@ pub mod Orders
 pub mod Told
 pub mod Fits
 pub mod Hands
+pub mod Carry
+pub mod Ranges
 pub mod Laws
