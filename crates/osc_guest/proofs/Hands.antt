@@ -55,6 +55,31 @@ hands_move h t =
     let o = told-out h.place h t refl in
     record { box = o.0; order = o.1; gate = o.2; runs = o.3; pid = o.4; root = o.5; levels = o.6; frames = o.7 }
 
+-- ---- the same, one by one, for those who rewrite by them
+pub told-box : (h : UserHart) (t : Told) → is_some (told h t).hart.held ≡ held_after h.place t (is_some h.held)
+told-box h t = let o = hands_move h t in o.box
+
+pub told-order : (h : UserHart) (t : Told) → order_in (told h t).hart.held ≡ order_after h.place t (order_in h.held)
+told-order h t = let o = hands_move h t in o.order
+
+pub told-gate : (h : UserHart) (t : Told) → gate_held (told h t).hart.place ≡ gate_after h.place t
+told-gate h t = let o = hands_move h t in o.gate
+
+pub told-runs : (h : UserHart) (t : Told) → runs_thread (told h t).hart.place ≡ runs_after h.place t
+told-runs h t = let o = hands_move h t in o.runs
+
+pub told-pid : (h : UserHart) (t : Told) → (told h t).hart.pid ≡ option_map_or (λ (s : thread.Start). s.pid) (start_told h.place t) h.pid
+told-pid h t = let o = hands_move h t in o.pid
+
+pub told-root : (h : UserHart) (t : Told) → (told h t).hart.root ≡ option_map_or (λ (s : thread.Start). s.root) (start_told h.place t) h.root
+told-root h t = let o = hands_move h t in o.root
+
+pub told-levels : (h : UserHart) (t : Told) → (told h t).hart.levels ≡ option_map_or (λ (s : thread.Start). s.levels) (start_told h.place t) h.levels
+told-levels h t = let o = hands_move h t in o.levels
+
+pub told-frames : (h : UserHart) (t : Told) → (told h t).hart.frames ≡ option_map_or (λ (s : thread.Start). s.frames) (start_told h.place t) h.frames
+told-frames h t = let o = hands_move h t in o.frames
+
 pub hand_kept : HandKept
 unfolding told
 hand_kept h t agrees =

@@ -45,7 +45,7 @@ seen-calm : (access : MemoryAccess) (found : Look) (h : UserHart) → Calm h (se
 seen-calm access (Hit frame) h = reached-calm access frame (record h { hits = risen h.hits })
 seen-calm access Miss h = grind arith
 
-looked_up-calm : (access : MemoryAccess) (h : UserHart) → Calm h (looked_up access h)
+pub looked_up-calm : (access : MemoryAccess) (h : UserHart) → Calm h (looked_up access h)
 unfolding looked_up
 looked_up-calm access h =
     either (Calm h) (is_canonical h.levels (page_of access)) _ _
@@ -77,7 +77,7 @@ accessing-calm (Some access) h = go (alignment_trap access)
     go (Some trap) = grind arith
     go None = looked_up-calm access h
 
-executed-calm : (i : Instr) (does : IntDone) (h : UserHart) → Calm h (executed i does h)
+pub executed-calm : (i : Instr) (does : IntDone) (h : UserHart) → Calm h (executed i does h)
 unfolding executed
 executed-calm i (done.Load rd kind address) h = accessing-calm (access_of i (done.Load rd kind address)) h
 executed-calm i (done.Store width address value) h = accessing-calm (access_of i (done.Store width address value)) h
