@@ -2,5 +2,6 @@ pub mod Seams
 pub mod Hands
 pub mod Carry
 pub mod WhoAsks
-pub mod Trial
 pub mod Quiet
+pub mod Nearer
+pub mod Ranges
