@@ -221,6 +221,6 @@ module _ (Page : Pages) (Tab : Tabs) where
   told-ok (at.Call (request.Call call)) h (Resumed said) e f k g = resumed-ok said h k
   told-ok p h t e f k g = k
 
-pub carries : Carries
+pub carries : (Page : Pages) (Tab : Tabs) → Carries Page Tab
 unfolding told
 carries Page Tab h t k g = told-ok Page Tab h.place h t refl k k g

@@ -5,3 +5,5 @@ pub mod WhoAsks
 pub mod Quiet
 pub mod Nearer
 pub mod Ranges
+pub mod Shows
+pub mod Conditional

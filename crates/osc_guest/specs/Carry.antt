@@ -30,6 +30,13 @@ Pages = ℕ → ℕ → ℕ → Type 0
 abbrev pub Tabs : Type 1
 Tabs = ℕ → ℕ → ℕ → ℕ → Type 0
 
+-- those of a set
+abbrev pub pages_in : (ℕ → ℕ → ℕ → Bool) → Pages
+pages_in pages pid page frame = pages pid page frame ≡ true
+
+abbrev pub tables_in : (ℕ → ℕ → ℕ → ℕ → Bool) → Tabs
+tables_in tables pid level page table = tables pid level page table ≡ true
+
 -- ---- what a hart has
 -- it holds its box and may yet walk. A hart between two instructions may not, since its process may end
 -- before it takes its box again
@@ -79,10 +86,13 @@ ToldOk Page Tab h (at.Walk access level table) (Word word) =
     EntryOk Page Tab h.frames h.pid (page_of access) level (entry_of word)
 ToldOk Page Tab h place t = Unit {0}
 
-abbrev pub Carries : Type 1
-Carries =
-    (Page : Pages) (Tab : Tabs) (h : UserHart) (t : Told)
-    → HartOk Page Tab h → ToldOk Page Tab h h.place t → HartOk Page Tab (told h t).hart
+abbrev pub Carries : Pages → Tabs → Type 0
+Carries Page Tab =
+    (h : UserHart) (t : Told) → HartOk Page Tab h → ToldOk Page Tab h h.place t → HartOk Page Tab (told h t).hart
+
+abbrev pub SetsCarried : Type 0
+SetsCarried =
+    (pages : ℕ → ℕ → ℕ → Bool) (tables : ℕ → ℕ → ℕ → ℕ → Bool) → Carries (pages_in pages) (tables_in tables)
 
 -- ---- what it shows
 -- an LR is done with its load, all else under a gate with its store
@@ -115,7 +125,11 @@ pub record Reaches (Page : Pages) (touch : Touch) : Type 0 where
   pub frame : ℕ
   pub ok : Page touch.pid (touch.address / 4096) frame
 
-abbrev pub TouchesReach : Type 1
-TouchesReach =
-    (Page : Pages) (Tab : Tabs) (h : UserHart) (t : Told) (touch : Touch)
+abbrev pub TouchesReach : Pages → Tabs → Type 0
+TouchesReach Page Tab =
+    (h : UserHart) (t : Told) (touch : Touch)
     → HartOk Page Tab h → (told h t).touch ≡ Some touch → touch.done ≡ true → Reaches Page touch
+
+abbrev pub SetsReached : Type 0
+SetsReached =
+    (pages : ℕ → ℕ → ℕ → Bool) (tables : ℕ → ℕ → ℕ → ℕ → Bool) → TouchesReach (pages_in pages) (tables_in tables)

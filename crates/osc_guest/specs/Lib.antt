@@ -10,3 +10,5 @@ pub mod Hands
 pub mod Carry
 pub mod Ranges
 pub mod Laws
+pub mod AccessLaws
+pub mod Worked

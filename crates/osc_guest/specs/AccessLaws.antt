@@ -1,0 +1,56 @@
+-- The laws of accesses: a store-conditional goes by the reservation for it, and alignment is that of the
+-- integer instructions.
+use Rattle.std.specs.Prelude.{ℕ, ◌≡◌, Bool, true, false, Option, Some, None, is_some}
+use Rattle.osc_rv.specs.declared.instr.LoadKind.{LoadKind}
+use Rattle.osc_isa.specs.declared.IntDone.TheVariants as done
+use Rattle.osc_isa.specs.Traps.{trap_of}
+use Rattle.osc_guest.specs.declared.accesses.MemoryAccess.{MemoryAccess}
+use Rattle.osc_guest.specs.declared.accesses.Reservation.{Reservation}
+use Rattle.osc_guest.specs.declared.accesses.What.{What}
+use Rattle.osc_guest.specs.declared.accesses.What.TheVariants as does
+use Rattle.osc_guest.specs.declared.places.Place.{Place}
+use Rattle.osc_guest.specs.declared.places.Place.TheVariants as at
+use Rattle.osc_guest.specs.declared.places.Stage.{Stage}
+use Rattle.osc_guest.specs.declared.places.Stage.TheVariants as stage
+use Rattle.osc_guest.specs.User.{UserHart}
+use Rattle.osc_guest.specs.Accesses.{load_at, store_at, alignment_trap, reserved_version}
+use Rattle.osc_guest.specs.Asks.{ask}
+use Rattle.osc_guest.specs.Told.{Told, told}
+use Rattle.osc_guest.specs.Fits.{Fits}
+
+-- ---- store-conditionals
+abbrev pub is_conditional : What → Bool
+is_conditional (does.Sc value) = true
+is_conditional _ = false
+
+-- an SC is at the gate, and stores, only with the version of its own hart's reservation for it
+abbrev pub ReservedIn : Option Reservation → MemoryAccess → ℕ → Stage → Type 0
+ReservedIn r access frame stage.Fetch = is_conditional access.what ≡ false
+ReservedIn r access frame stage.Load = is_conditional access.what ≡ false
+ReservedIn r access frame (stage.TakeGate only) =
+    is_conditional access.what ≡ true → (is_some only ≡ true) × (reserved_version r access frame ≡ only)
+ReservedIn r access frame (stage.GatedLoad version) =
+    is_conditional access.what ≡ true → reserved_version r access frame ≡ Some version
+ReservedIn r access frame (stage.GatedStore version found) =
+    is_conditional access.what ≡ true → reserved_version r access frame ≡ Some version
+
+abbrev pub ReservedAt : Option Reservation → Place → Type 0
+ReservedAt r (at.Access access frame stage) = ReservedIn r access frame stage
+ReservedAt r _ = Unit {0}
+
+abbrev pub ReservationHolds : UserHart → Type 0
+ReservationHolds h = ReservedAt h.reservation h.place
+
+abbrev pub ReservationsKept : Type 0
+ReservationsKept =
+    (h : UserHart) (t : Told) → Fits (ask h) t → ReservationHolds h → ReservationHolds (told h t).hart
+
+-- ---- alignment
+-- for loads and stores the trap is the one that the integer instructions have
+abbrev pub LoadsAligned : Type 0
+LoadsAligned =
+    (rd address pc : ℕ) (kind : LoadKind) → alignment_trap (load_at rd kind address) ≡ trap_of (done.Load rd kind address) pc
+
+abbrev pub StoresAligned : Type 0
+StoresAligned =
+    (width address value pc : ℕ) → alignment_trap (store_at width address value) ≡ trap_of (done.Store width address value) pc
