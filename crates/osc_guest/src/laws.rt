@@ -47,14 +47,10 @@ pub fn hands_move()
 {}
 
 /// What was true of each page and each table that a hart was told of stays true of all that it holds,
-/// reaches and walks through.
+/// reaches and walks through. It shows each access that it does, at a page that it reached, and
+/// whatever else it shows was not done.
 pub fn answers_carry()
     ensures carries { SetsCarried }
-{}
-
-/// A hart shows each access that it does, at a page that it reached, and whatever else it shows was
-/// not done.
-pub fn answers_show()
     ensures done { DoneShown }
     ensures lost { ElseLost }
     ensures reached { SetsReached }

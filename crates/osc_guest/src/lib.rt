@@ -10,8 +10,8 @@ mod worked;
 
 pub use accesses::{MemoryAccess, Reservation, Touch, What};
 pub use laws::{
-    accesses_fit, answers_carry, answers_keep, answers_move, answers_show, asks_within, hands_move,
-    places_ask, stays_exactly,
+    accesses_fit, answers_carry, answers_keep, answers_move, asks_within, hands_move, places_ask,
+    stays_exactly,
 };
 pub use places::{After, Ask, Place, Stage};
 pub use worked::{
