@@ -92,6 +92,12 @@ abbrev pub GivingMoves : Type 0
 GivingMoves =
     (h : UserHart) → ask h ≡ asks.GiveBox → (ask (told h Done).hart ≢ asks.GiveBox) × ((told h Done).hart.held ≡ None)
 
+-- so each fitting answer but Busy changes the hart, outside a call
+abbrev pub FittingChanges : Type 0
+FittingChanges =
+    (h : UserHart) (t : Told)
+    → Fits (ask h) t → t ≢ Busy → ((asked : Request) → ask h ≢ asks.Kernel asked) → (told h t).hart ≢ h
+
 -- ---- which places ask for what
 abbrev pub TakersOfBox : Type 0
 TakersOfBox = (h : UserHart) → ask h ≡ asks.TakeBox → (h.place ≡ at.Run) ⊎ (h.place ≡ at.Idle)
