@@ -9,7 +9,7 @@ use Rattle.osc_word.specs.declared.orders.Order.TheVariants as order
 use Rattle.osc_sv39.specs.declared.entries.Access.{Access}
 use Rattle.osc_sv39.specs.declared.entries.Mapping.{Mapping}
 use Rattle.osc_sv39.specs.declared.entries.PteEntry.{PteEntry}
-use Rattle.osc_sv39.specs.declared.entries.PteEntry.TheVariants.{Absent, Table, Leaf, Reserved}
+use Rattle.osc_sv39.specs.declared.entries.PteEntry.TheVariants.{Table, Leaf}
 use Rattle.osc_sv39.specs.Entries.{entry_of, is_allowed}
 use Rattle.osc_sv39.specs.Walk.{is_canonical}
 use Rattle.osc_paging.specs.declared.CacheEntry.{CacheEntry}
@@ -33,11 +33,11 @@ use Rattle.osc_guest.specs.declared.places.Stage.{Stage}
 use Rattle.osc_guest.specs.declared.places.Stage.TheVariants as stage
 use Rattle.osc_guest.specs.User.{UserHart, Answered, box_or_new, cache_of, risen, with_thread}
 use Rattle.osc_guest.specs.Accesses.{access_of, alignment_trap, fetch_at, found_by, kind_of, page_of, reserved_version}
-use Rattle.osc_guest.specs.Looking.{access_begun, box_filled, first_stage, leaf_found, link_found, looked_up, reached, seen, walked}
+use Rattle.osc_guest.specs.Looking.{access_begun, box_filled, first_stage, leaf_found, looked_up, reached, seen, walked}
 use Rattle.osc_guest.specs.Instructions.{accessing, decoded, executed, unless_misaligned}
 use Rattle.osc_guest.specs.Orders.{begun, holding, obeyed, ordered}
-use Rattle.osc_guest.specs.Told.{Told, Box, Busy, Word, Gate, OldVersion, Resumed, Done, gated, given, resumed, told, told_at}
-use Rattle.osc_guest.specs.Carry.{Pages, Tabs, CacheOk, RootOk, PlaceOk, HartOk, EntryOk, RunBoxOk, IdleBoxOk, ToldOk, Carries}
+use Rattle.osc_guest.specs.Told.{Told, Box, Word, Gate, OldVersion, Resumed, Done, gated, given, resumed, told, told_at}
+use Rattle.osc_guest.specs.Carry.{Pages, Tabs, CacheOk, RootOk, HartOk, EntryOk, RunBoxOk, IdleBoxOk, ToldOk, Carries}
 use Rattle.osc_guest.specs.Hands.{start_in}
 
 -- ---- caches

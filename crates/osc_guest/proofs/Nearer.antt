@@ -1,18 +1,16 @@
 -- Each fitting answer but Busy leads nearer to the end of the instruction.
-use Rattle.std.proofs.Common.{ℕ, zero, suc, ◌+◌, ◌-◌, ◌<◌, ◌≤◌, ◌≡◌, ◌≢◌, Bool, true, false, Option, Some, None, arith, refl, ap}
+use Rattle.std.proofs.Common.{ℕ, suc, ◌+◌, ◌-◌, ◌≤◌, ◌≡◌, arith, refl, ap}
 use Rattle.osc_sv39.specs.declared.entries.PteEntry.{PteEntry}
 use Rattle.osc_rv.specs.declared.instr.Instr.{Instr}
 use Rattle.osc_isa.specs.declared.IntDone.{IntDone}
 use Rattle.osc_guest.specs.declared.accesses.MemoryAccess.{MemoryAccess}
 use Rattle.osc_guest.specs.declared.places.Place.{Place}
 use Rattle.osc_guest.specs.declared.places.Place.TheVariants as at
-use Rattle.osc_guest.specs.declared.places.Ask.TheVariants as asks
 use Rattle.osc_guest.specs.User.{UserHart}
 use Rattle.osc_guest.specs.Asks.{ask}
 use Rattle.osc_guest.specs.Looking.{reached, looked_up, walked}
 use Rattle.osc_guest.specs.Instructions.{executed}
-use Rattle.osc_guest.specs.Told.{Told, told}
-use Rattle.osc_guest.specs.Fits.{Fits}
+use Rattle.osc_guest.specs.Told.{told}
 use Rattle.osc_guest.specs.Laws.{left_of, left, AnswersMove, FittingChanges}
 use Rattle.osc_guest.proofs.Hands.{told-levels}
 

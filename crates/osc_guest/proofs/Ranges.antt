@@ -3,20 +3,19 @@ use Rattle.std.proofs.Common.{ℕ, zero, suc, ◌<◌, ◌≡◌, Bool, true, fa
 use Rattle.osc_word.specs.declared.orders.Order.{Order}
 use Rattle.osc_word.specs.declared.orders.Order.TheVariants as order
 use Rattle.osc_sv39.specs.declared.entries.PteEntry.{PteEntry}
-use Rattle.osc_sv39.specs.declared.entries.PteEntry.TheVariants.{Absent, Table, Leaf, Reserved}
+use Rattle.osc_sv39.specs.declared.entries.PteEntry.TheVariants.{Table, Leaf}
 use Rattle.osc_sv39.specs.Entries.{entry_of}
 use Rattle.osc_paging.specs.Boxes.{BoxState}
-use Rattle.osc_guest.specs.declared.accesses.MemoryAccess.{MemoryAccess}
 use Rattle.osc_guest.specs.declared.places.Place.{Place}
 use Rattle.osc_guest.specs.declared.places.Place.TheVariants as at
 use Rattle.osc_guest.specs.declared.places.Stage.TheVariants as stage
-use Rattle.osc_guest.specs.User.{UserHart, box_or_new, cache_of}
+use Rattle.osc_guest.specs.User.{UserHart, box_or_new}
 use Rattle.osc_guest.specs.Accesses.{page_of}
 use Rattle.osc_guest.specs.Asks.{ask, ask_at}
-use Rattle.osc_guest.specs.Told.{Told, Box, Busy, Word, Gate, OldVersion, Resumed, Done, told}
+use Rattle.osc_guest.specs.Told.{Told, Box, Word, Gate, Done, told}
 use Rattle.osc_guest.specs.Hands.{gate_held, gate_after, order_in, order_left, order_after, start_in, runs_by, runs_thread}
-use Rattle.osc_guest.specs.Carry.{CacheOk, PlaceOk, HartOk, ToldOk, RootIf, IdleBoxOk, EntryOk, may_walk}
-use Rattle.osc_guest.specs.Ranges.{page_in, table_in, OrderIn, ToldIn, HartIn, AskIn, AsksIn, RangeKept, BeginsIn}
+use Rattle.osc_guest.specs.Carry.{CacheOk, PlaceOk, ToldOk, RootIf, IdleBoxOk, EntryOk, may_walk}
+use Rattle.osc_guest.specs.Ranges.{page_in, table_in, OrderIn, ToldIn, AskIn, AsksIn, RangeKept, BeginsIn}
 use Rattle.osc_guest.proofs.Carry.{carries, empty-ok}
 use Rattle.osc_guest.proofs.Hands.{told-order, told-gate, told-runs, told-root, told-frames}
 

@@ -1,7 +1,7 @@
 -- What the pieces of a turn keep: they begin with the box in hand, and hold no gate.
 use Rattle.std.proofs.Common.{ℕ, zero, suc, ◌≡◌, Bool, true, false, Option, Some, None, is_some, arith, refl, ◌∙◌, nat_lt, ◌&&◌, ◌%◌, ◌==◌, if◌then◌else◌}
 use Rattle.osc_sv39.specs.declared.entries.PteEntry.{PteEntry}
-use Rattle.osc_sv39.specs.declared.entries.PteEntry.TheVariants.{Absent, Table, Leaf, Reserved}
+use Rattle.osc_sv39.specs.declared.entries.PteEntry.TheVariants.{Table, Leaf}
 use Rattle.osc_sv39.specs.declared.entries.Mapping.{Mapping}
 use Rattle.osc_sv39.specs.Entries.{is_allowed}
 use Rattle.osc_sv39.specs.Walk.{is_canonical}

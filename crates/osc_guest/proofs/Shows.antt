@@ -1,5 +1,5 @@
 -- What an answer shows.
-use Rattle.std.proofs.Common.{ℕ, zero, suc, ◌/◌, ◌≡◌, Bool, true, false, not, Option, Some, None, arith, refl, sym, subst}
+use Rattle.std.proofs.Common.{ℕ, ◌≡◌, Bool, true, false, Option, Some, None, arith, refl, sym, subst}
 use Rattle.osc_sv39.specs.declared.entries.PteEntry.{PteEntry}
 use Rattle.osc_guest.specs.declared.accesses.MemoryAccess.{MemoryAccess}
 use Rattle.osc_guest.specs.declared.accesses.Touch.{Touch}
@@ -9,7 +9,7 @@ use Rattle.osc_guest.specs.User.{UserHart}
 use Rattle.osc_guest.specs.Accesses.{page_of, touch_of}
 use Rattle.osc_guest.specs.Looking.{reached, looked_up, walked}
 use Rattle.osc_guest.specs.Told.{Told, told}
-use Rattle.osc_guest.specs.Carry.{Pages, Tabs, HartOk, PlaceOk, done_with, DoneShown, ElseLost, Reaches, TouchesReach}
+use Rattle.osc_guest.specs.Carry.{Pages, Tabs, PlaceOk, done_with, DoneShown, ElseLost, Reaches, TouchesReach}
 
 pub done_shown : DoneShown
 unfolding told

@@ -1,5 +1,5 @@
 -- An access under way is aligned, and a fetch is that at the pc.
-use Rattle.std.proofs.Common.{ℕ, zero, suc, ◌%◌, ◌==◌, ◌≡◌, Bool, true, false, Option, Some, None, List, arith, refl}
+use Rattle.std.proofs.Common.{ℕ, ◌%◌, ◌==◌, ◌≡◌, Bool, true, false, Option, Some, None, List, arith, refl}
 use Rattle.std.proofs.lemmas.Bool.Decides.{nat_tests}
 use Rattle.osc_word.specs.declared.orders.Order.{Order}
 use Rattle.osc_word.specs.declared.orders.Order.TheVariants as order

@@ -1,6 +1,6 @@
 -- The laws of accesses: what an access under way is like, that a store-conditional goes by the reservation
 -- for it, and that alignment is that of the integer instructions.
-use Rattle.std.specs.Prelude.{ℕ, ◌%◌, ◌==◌, ◌||◌, ◌≡◌, Bool, true, false, Option, Some, None, is_some}
+use Rattle.std.specs.Prelude.{ℕ, ◌%◌, ◌==◌, ◌||◌, ◌≡◌, Bool, true, false, Option, Some, is_some}
 use Rattle.osc_rv.specs.declared.instr.LoadKind.{LoadKind}
 use Rattle.osc_isa.specs.declared.IntDone.TheVariants as done
 use Rattle.osc_isa.specs.Traps.{trap_of}

@@ -1,6 +1,6 @@
 -- A hart asks only for what the machine has: it tests the number of each frame that it reads from memory
 -- against the machine's count, which comes with its thread.
-use Rattle.std.specs.Prelude.{ℕ, ◌≡◌, ◌<◌, true, Option, Some, None}
+use Rattle.std.specs.Prelude.{ℕ, ◌≡◌, ◌<◌, true, Some}
 use Rattle.osc_word.specs.declared.orders.Start as thread
 use Rattle.osc_word.specs.declared.orders.Order.{Order}
 use Rattle.osc_word.specs.declared.orders.Order.TheVariants.{Empty, Start, Stop, Over}

@@ -1,5 +1,5 @@
 -- What a hart makes of the answer to its action. It is this project's own.
-use Rattle.std.specs.Prelude.{ℕ, ◌+◌, true, false, Option, Some, None}
+use Rattle.std.specs.Prelude.{ℕ, ◌+◌, true, false, Some, None}
 use Rattle.osc_word.specs.declared.calls.Request.TheVariants as request
 use Rattle.osc_word.specs.declared.calls.Call.TheVariants.{End}
 use Rattle.osc_word.specs.declared.calls.Resume.{Resume}

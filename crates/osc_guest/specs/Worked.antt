@@ -2,13 +2,11 @@
 use Rattle.std.specs.Prelude.{ℕ, zero, suc, ◌≡◌, Bool, true, false, Option, Some, None, List, [], ◌∷◌, ◌++◌, take, replicate}
 use Rattle.std.specs.Option.{option_to_list}
 use Rattle.osc_word.specs.declared.orders.Start as start
-use Rattle.osc_word.specs.declared.orders.Order.{Order}
-use Rattle.osc_word.specs.declared.orders.Order.TheVariants.{Empty, Start, Stop, Over}
+use Rattle.osc_word.specs.declared.orders.Order.TheVariants.{Empty}
 use Rattle.osc_word.specs.declared.job_list.WordAt.{WordAt}
 use Rattle.osc_word.specs.declared.calls.Request.TheVariants as request
 use Rattle.osc_word.specs.declared.calls.Call.TheVariants as call
 use Rattle.osc_word.specs.declared.calls.Fault.TheVariants as fault
-use Rattle.osc_word.specs.declared.calls.Resume.TheVariants as resume
 use Rattle.osc_word.specs.declared.steps.Choice.{Choice}
 use Rattle.osc_word.specs.declared.steps.Choice.TheVariants.{Plain, Success, Fail}
 use Rattle.osc_word.specs.declared.steps.Access.TheVariants as labelled
@@ -25,12 +23,12 @@ use Rattle.osc_guest.specs.declared.accesses.Reservation.{Reservation}
 use Rattle.osc_guest.specs.declared.accesses.Touch.{Touch}
 use Rattle.osc_guest.specs.declared.places.Ask.{Ask}
 use Rattle.osc_guest.specs.declared.places.Ask.TheVariants as asks
-use Rattle.osc_guest.specs.User.{UserHart, goes, handed, user_begin, user_idle}
+use Rattle.osc_guest.specs.User.{UserHart, handed, user_begin}
 use Rattle.osc_guest.specs.Accesses.{store_at, word_stored}
 use Rattle.osc_guest.specs.Asks.{ask}
 use Rattle.osc_guest.specs.Looking.{reached, looked_up, walked}
 use Rattle.osc_guest.specs.Instructions.{executed}
-use Rattle.osc_guest.specs.Told.{Told, Box, Busy, Word, Gate, OldVersion, Resumed, Done, told}
+use Rattle.osc_guest.specs.Told.{Told, Box, Word, Gate, OldVersion, Done, told}
 
 -- what a hart asks for, answer by answer
 unfoldable pub asks_of : List Told → UserHart → List Ask

@@ -1,36 +1,17 @@
 -- Calls, first pcs and orders worked through, step by step.
-use Rattle.std.specs.Prelude.{ℕ, zero, suc, ◌≡◌, Bool, true, false, Option, Some, None, List, [], ◌∷◌, ◌++◌, take, replicate}
-use Rattle.std.specs.Option.{option_to_list}
-use Rattle.osc_word.specs.declared.orders.Start as start
+use Rattle.std.specs.Prelude.{ℕ, ◌≡◌, false, None, List, [], ◌∷◌, replicate}
 use Rattle.osc_word.specs.declared.orders.Order.{Order}
-use Rattle.osc_word.specs.declared.orders.Order.TheVariants.{Empty, Start, Stop, Over}
-use Rattle.osc_word.specs.declared.job_list.WordAt.{WordAt}
+use Rattle.osc_word.specs.declared.orders.Order.TheVariants.{Start, Stop, Over}
 use Rattle.osc_word.specs.declared.calls.Request.TheVariants as request
 use Rattle.osc_word.specs.declared.calls.Call.TheVariants as call
 use Rattle.osc_word.specs.declared.calls.Fault.TheVariants as fault
 use Rattle.osc_word.specs.declared.calls.Resume.TheVariants as resume
-use Rattle.osc_word.specs.declared.steps.Choice.{Choice}
-use Rattle.osc_word.specs.declared.steps.Choice.TheVariants.{Plain, Success, Fail}
-use Rattle.osc_word.specs.declared.steps.Access.TheVariants as labelled
-use Rattle.osc_word.specs.Registers.{register, with_register}
-use Rattle.osc_word.specs.Environment.{call_of}
-use Rattle.osc_sv39.specs.declared.entries.Mapping.{Mapping}
-use Rattle.osc_rv.specs.declared.instr.AmoOp.TheVariants.{Add}
-use Rattle.osc_rv.specs.declared.instr.Width.TheVariants.{W}
-use Rattle.osc_rv.specs.Instr.{instr_of}
-use Rattle.osc_paging.specs.Boxes.{BoxState, no_entries, filled}
-use Rattle.osc_guest.specs.declared.accesses.MemoryAccess.{MemoryAccess}
-use Rattle.osc_guest.specs.declared.accesses.What.TheVariants as does
-use Rattle.osc_guest.specs.declared.accesses.Reservation.{Reservation}
-use Rattle.osc_guest.specs.declared.accesses.Touch.{Touch}
-use Rattle.osc_guest.specs.declared.places.Ask.{Ask}
+use Rattle.osc_word.specs.Registers.{with_register}
+use Rattle.osc_paging.specs.Boxes.{BoxState}
 use Rattle.osc_guest.specs.declared.places.Ask.TheVariants as asks
 use Rattle.osc_guest.specs.User.{UserHart, goes, handed, user_begin, user_idle}
-use Rattle.osc_guest.specs.Accesses.{store_at, word_stored}
 use Rattle.osc_guest.specs.Asks.{ask}
-use Rattle.osc_guest.specs.Looking.{reached, looked_up, walked}
-use Rattle.osc_guest.specs.Instructions.{executed}
-use Rattle.osc_guest.specs.Told.{Told, Box, Busy, Word, Gate, OldVersion, Resumed, Done, told}
+use Rattle.osc_guest.specs.Told.{Told, Box, Busy, Word, Resumed, Done, told}
 use Rattle.osc_guest.specs.Worked.{asks_of, choices_of, touches_of, after_all, Seen, seen_of, start_at, at_pc, thread, registers, code_box, word_of_frame, addi_word, fetched_at, lr_answers}
 
 -- ---- ecall, with 1 in a7 and 7 in a0
