@@ -10,7 +10,7 @@ use Rattle.osc_rv.specs.Instr.{instr_of}
 use Rattle.osc_guest.specs.declared.places.Place.{Place}
 use Rattle.osc_guest.specs.declared.places.Place.TheVariants as at
 use Rattle.osc_guest.specs.declared.places.Stage.TheVariants as stage
-use Rattle.osc_guest.specs.User.{UserHart, with_thread}
+use Rattle.osc_guest.specs.User.{UserHart, starting}
 use Rattle.osc_guest.specs.Accesses.{found_by}
 use Rattle.osc_guest.specs.Orders.{holding, obeyed}
 use Rattle.osc_guest.specs.Told.{Told, Box, Word, told, told_at}
@@ -36,7 +36,7 @@ run-out : (o : Order) (box : BoxState) (h : UserHart) → box.order ≡ o → Ou
 run-out o box h e = grind (arith, e, begun-calm (holding box h))
 
 idle-out : (o : Order) (box : BoxState) (h : UserHart) → box.order ≡ o → Out at.Idle h (Box box)
-idle-out (order.Start start) box h e = grind (arith, e, begun-calm (with_thread start (holding (obeyed box) h)))
+idle-out (order.Start start) box h e = grind (arith, e, begun-calm (starting start (holding (obeyed box) h)))
 idle-out o box h e = grind (arith, e)
 
 told-out : (p : Place) (h : UserHart) (t : Told) → h.place ≡ p → Out p h t

@@ -16,13 +16,13 @@ use Rattle.osc_guest.specs.declared.accesses.What.TheVariants as does
 use Rattle.osc_guest.specs.declared.places.Place.{Place}
 use Rattle.osc_guest.specs.declared.places.Place.TheVariants as at
 use Rattle.osc_guest.specs.declared.places.Stage.TheVariants as stage
-use Rattle.osc_guest.specs.User.{UserHart, with_thread}
+use Rattle.osc_guest.specs.User.{UserHart, starting}
 use Rattle.osc_guest.specs.Accesses.{access_of, fetch_at, found_by}
 use Rattle.osc_guest.specs.Looking.{reached, looked_up, walked}
 use Rattle.osc_guest.specs.Instructions.{accessing, executed, decoded}
 use Rattle.osc_guest.specs.Orders.{begun, holding, obeyed, ordered}
 use Rattle.osc_guest.specs.Told.{Told, Box, Word, told, told_at}
-use Rattle.osc_guest.specs.AccessLaws.{is_width, AccessFits, PlaceFits, AccessesKept}
+use Rattle.osc_guest.specs.AccessLaws.{is_access_width, AccessFits, PlaceFits, AccessesKept}
 
 reached-fits : (access : MemoryAccess) (frame : ℕ) (h : UserHart) → AccessFits h.pc access → PlaceFits (reached access frame h).hart.pc (reached access frame h).hart.place
 unfolding reached
@@ -43,7 +43,7 @@ is_data _ = true
 
 abbrev IsData : Option MemoryAccess → Type 0
 IsData None = Unit {0}
-IsData (Some access) = (is_width access.width ≡ true) × (is_data access.what ≡ true)
+IsData (Some access) = (is_access_width access.width ≡ true) × (is_data access.what ≡ true)
 
 made : (i : Instr) (regs : List ℕ) (pc : ℕ) → IsData (access_of i (done_of i regs pc))
 made i regs pc = grind arith
@@ -88,7 +88,7 @@ told-fits at.Run h (Box box) e k l = go box.order refl
 told-fits at.Idle h (Box box) e k l = go box.order refl
   where
     go : (o : Order) → box.order ≡ o → PlaceFits (ordered false box.order box h).hart.pc (ordered false box.order box h).hart.place
-    go (order.Start start) e = grind (arith, e, begun-fits (with_thread start (holding (obeyed box) h)))
+    go (order.Start start) e = grind (arith, e, begun-fits (starting start (holding (obeyed box) h)))
     go o e = grind (arith, e)
 told-fits (at.Walk access level table) h (Word word) e k l = walked-fits access level (entry_of word) h k
 told-fits (at.Access access frame stage.Fetch) h (Word word) e k l = decoded-fits (instr_of (found_by access word)) h

@@ -20,8 +20,8 @@ use Rattle.osc_guest.specs.Fits.{Fits}
 
 -- ---- an access under way
 -- the widths of accesses, in bytes
-abbrev pub is_width : ℕ → Bool
-is_width width = (width == 1) || (width == 2) || (width == 4) || (width == 8)
+abbrev pub is_access_width : ℕ → Bool
+is_access_width width = (width == 1) || (width == 2) || (width == 4) || (width == 8)
 
 abbrev pub FetchFits : What → ℕ → MemoryAccess → Type 0
 FetchFits does.Fetch pc access = access ≡ fetch_at pc
@@ -30,7 +30,7 @@ FetchFits _ pc access = Unit {0}
 -- it is aligned, so that its bytes lie in one word, and a fetch is that at the pc
 abbrev pub AccessFits : ℕ → MemoryAccess → Type 0
 AccessFits pc access =
-    (is_width access.width ≡ true) × (access.address % access.width ≡ 0) × FetchFits access.what pc access
+    (is_access_width access.width ≡ true) × (access.address % access.width ≡ 0) × FetchFits access.what pc access
 
 -- what is done without a gate, and with a store under one
 abbrev pub stage_fits : Stage → What → Bool
