@@ -9,7 +9,7 @@ use Rattle.osc_word.specs.declared.orders.Order.TheVariants as order
 use Rattle.osc_sv39.specs.declared.entries.Access.{Access}
 use Rattle.osc_sv39.specs.declared.entries.Mapping.{Mapping}
 use Rattle.osc_sv39.specs.declared.entries.PteEntry.{PteEntry}
-use Rattle.osc_sv39.specs.declared.entries.PteEntry.TheVariants.{Absent, Table, Leaf, Reserved}
+use Rattle.osc_sv39.specs.declared.entries.PteEntry.TheVariants.{Table, Leaf}
 use Rattle.osc_sv39.specs.Entries.{entry_of, is_allowed}
 use Rattle.osc_sv39.specs.Walk.{is_canonical}
 use Rattle.osc_paging.specs.declared.CacheEntry.{CacheEntry}
@@ -31,13 +31,13 @@ use Rattle.osc_guest.specs.declared.places.Place.{Place}
 use Rattle.osc_guest.specs.declared.places.Place.TheVariants as at
 use Rattle.osc_guest.specs.declared.places.Stage.{Stage}
 use Rattle.osc_guest.specs.declared.places.Stage.TheVariants as stage
-use Rattle.osc_guest.specs.User.{UserHart, Answered, box_or_new, cache_of, risen, with_thread}
-use Rattle.osc_guest.specs.Accesses.{access_of, alignment_trap, fetch_at, found_by, kind_of, page_of, reserved_version}
-use Rattle.osc_guest.specs.Looking.{access_begun, box_filled, first_stage, leaf_found, link_found, looked_up, reached, seen, walked}
+use Rattle.osc_guest.specs.User.{UserHart, Answered, box_or_new, cache_of, risen, starting}
+use Rattle.osc_guest.specs.Accesses.{access_of, alignment_trap, fetch_at, found_by, kind_of, access_page, reserved_version}
+use Rattle.osc_guest.specs.Looking.{access_begun, box_filled, first_stage, leaf_found, looked_up, reached, seen, walked}
 use Rattle.osc_guest.specs.Instructions.{accessing, decoded, executed, unless_misaligned}
 use Rattle.osc_guest.specs.Orders.{begun, holding, obeyed, ordered}
-use Rattle.osc_guest.specs.Told.{Told, Box, Busy, Word, Gate, OldVersion, Resumed, Done, gated, given, resumed, told, told_at}
-use Rattle.osc_guest.specs.Carry.{Pages, Tabs, CacheOk, RootOk, PlaceOk, HartOk, EntryOk, RunBoxOk, IdleBoxOk, ToldOk, Carries}
+use Rattle.osc_guest.specs.Told.{Told, Box, Word, Gate, OldVersion, Resumed, Done, gated, given, resumed, told, told_at}
+use Rattle.osc_guest.specs.Carry.{Pages, Tabs, CacheOk, RootOk, HartOk, EntryOk, RunBoxOk, IdleBoxOk, ToldOk, Carries}
 use Rattle.osc_guest.specs.Hands.{start_in}
 
 -- ---- caches
@@ -104,19 +104,19 @@ module _ (Page : Pages) (Tab : Tabs) where
   choose true a b k l = k refl
   choose false a b k l = l
 
-  begun_at-ok : (s : Option Stage) (access : MemoryAccess) (frame : ℕ) (h : UserHart) → Page h.pid (page_of access) frame
+  begun_at-ok : (s : Option Stage) (access : MemoryAccess) (frame : ℕ) (h : UserHart) → Page h.pid (access_page access) frame
       → Base h → HartOk Page Tab (access_begun s access frame h).hart
   begun_at-ok None access frame h p b = (tt, tt, b.1)
   begun_at-ok (Some stage) access frame h p b = (b.0, p, b.1)
 
-  reached-ok : (access : MemoryAccess) (frame : ℕ) (h : UserHart) → Page h.pid (page_of access) frame → Base h
+  reached-ok : (access : MemoryAccess) (frame : ℕ) (h : UserHart) → Page h.pid (access_page access) frame → Base h
       → HartOk Page Tab (reached access frame h).hart
   unfolding reached
   reached-ok access frame h p b =
       begun_at-ok (first_stage access.what (reserved_version h.reservation access frame)) access frame h p b
 
   seen-ok : (access : MemoryAccess) (found : Look) (h : UserHart)
-      → ((frame : ℕ) → found ≡ Hit frame → Page h.pid (page_of access) frame) → Tab h.pid (h.levels - 1) (page_of access) h.root
+      → ((frame : ℕ) → found ≡ Hit frame → Page h.pid (access_page access) frame) → Tab h.pid (h.levels - 1) (access_page access) h.root
       → Base h → HartOk Page Tab (seen access found h).hart
   seen-ok access (Hit frame) h p t b = reached-ok access frame (record h { hits = risen h.hits }) (p frame refl) b
   seen-ok access Miss h p t b = (b.0, t, b.1)
@@ -124,22 +124,22 @@ module _ (Page : Pages) (Tab : Tabs) where
   looked_up-ok : (access : MemoryAccess) (h : UserHart) → Base h → HartOk Page Tab (looked_up access h).hart
   unfolding looked_up
   looked_up-ok access h b =
-      choose (is_canonical h.levels (page_of access)) _ _
-      (λ e. seen-ok access (look (cache_of h) (page_of access) (kind_of access.what)) h
-      (λ frame f. hit-ok Page h.pid (page_of access) (entry_in (cache_of h) (slot_of (page_of access))) (kind_of access.what) frame (b.1 (slot_of (page_of access))) f)
-      (b.0 (page_of access) e) b)
+      choose (is_canonical h.levels (access_page access)) _ _
+      (λ e. seen-ok access (look (cache_of h) (access_page access) (kind_of access.what)) h
+      (λ frame f. hit-ok Page h.pid (access_page access) (entry_in (cache_of h) (slot_of (access_page access))) (kind_of access.what) frame (b.1 (slot_of (access_page access))) f)
+      (b.0 (access_page access) e) b)
       (tt, tt, b.1)
 
-  leaf-ok : (access : MemoryAccess) (m : Mapping) (h : UserHart) → (m.frame < h.frames → Page h.pid (page_of access) m.frame)
+  leaf-ok : (access : MemoryAccess) (m : Mapping) (h : UserHart) → (m.frame < h.frames → Page h.pid (access_page access) m.frame)
       → Base h → HartOk Page Tab (leaf_found access m h).hart
   leaf-ok access m h p b =
       choose (nat_lt m.frame h.frames && is_allowed m.bits.0 (kind_of access.what)) _ _
       (λ e. let less : m.frame < h.frames = grind (arith, nat_tests, e) in
-      reached-ok access m.frame (record h { held = box_filled (page_of access) m h.held }) (p less)
-      (b.0, box_filled-ok Page h.pid (page_of access) m h.held (p less) b.1)) (tt, tt, b.1)
+      reached-ok access m.frame (record h { held = box_filled (access_page access) m h.held }) (p less)
+      (b.0, box_filled-ok Page h.pid (access_page access) m h.held (p less) b.1)) (tt, tt, b.1)
 
   walked-ok : (access : MemoryAccess) (level : ℕ) (entry : PteEntry) (h : UserHart)
-      → EntryOk Page Tab h.frames h.pid (page_of access) level entry → Base h → HartOk Page Tab (walked access level entry h).hart
+      → EntryOk Page Tab h.frames h.pid (access_page access) level entry → Base h → HartOk Page Tab (walked access level entry h).hart
   unfolding walked
   walked-ok access zero (Leaf frame bits) h p b = leaf-ok access (record { frame = frame; bits = bits }) h p b
   walked-ok access (suc level) (Table frame) h t b =
@@ -180,11 +180,11 @@ module _ (Page : Pages) (Tab : Tabs) where
   idle-ok : (o : Order) (box : BoxState) (h : UserHart) → IdleBoxOk Page Tab h.pid (start_in o) box.slots
       → HartOk Page Tab (ordered false o box h).hart
   idle-ok order.Empty box h c = (tt, tt, c)
-  idle-ok (order.Start start) box h c = begun-ok (with_thread start (holding (obeyed box) h)) c
+  idle-ok (order.Start start) box h c = begun-ok (starting start (holding (obeyed box) h)) c
   idle-ok order.Stop box h c = (tt, tt, c)
   idle-ok order.Over box h c = (tt, tt, c)
 
-  gated-ok : (what : What) (access : MemoryAccess) (frame version word : ℕ) (h : UserHart) → Page h.pid (page_of access) frame
+  gated-ok : (what : What) (access : MemoryAccess) (frame version word : ℕ) (h : UserHart) → Page h.pid (access_page access) frame
       → Base h → HartOk Page Tab (gated what access frame version word h).hart
   gated-ok (does.Lr width) access frame version word h p b = (tt, tt, b.1)
   gated-ok _ access frame version word h p b = (b.0, p, b.1)

@@ -1,5 +1,5 @@
 -- A store-conditional goes on only with the version of its reservation.
-use Rattle.std.proofs.Common.{ℕ, zero, suc, ◌≡◌, Bool, true, false, Option, Some, None, is_some, arith, refl}
+use Rattle.std.proofs.Common.{ℕ, arith}
 use Rattle.osc_sv39.specs.declared.entries.PteEntry.{PteEntry}
 use Rattle.osc_rv.specs.declared.instr.Instr.{Instr}
 use Rattle.osc_isa.specs.declared.IntDone.{IntDone}
@@ -8,8 +8,7 @@ use Rattle.osc_guest.specs.User.{UserHart}
 use Rattle.osc_guest.specs.Asks.{ask}
 use Rattle.osc_guest.specs.Looking.{reached, looked_up, walked}
 use Rattle.osc_guest.specs.Instructions.{executed}
-use Rattle.osc_guest.specs.Told.{Told, told}
-use Rattle.osc_guest.specs.Fits.{Fits}
+use Rattle.osc_guest.specs.Told.{told}
 use Rattle.osc_guest.specs.AccessLaws.{ReservationHolds, ReservationsKept}
 
 reached-reserved : (access : MemoryAccess) (frame : ℕ) (h : UserHart) → ReservationHolds (reached access frame h).hart

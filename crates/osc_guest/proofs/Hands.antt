@@ -1,5 +1,5 @@
 -- What a hart has in its hand after an answer, place by place.
-use Rattle.std.proofs.Common.{ℕ, zero, suc, ◌≡◌, Bool, true, false, Option, Some, None, is_some, arith, refl, sym, ap, ◌∙◌}
+use Rattle.std.proofs.Common.{◌≡◌, is_some, arith, refl, sym, ap, ◌∙◌}
 use Rattle.std.specs.Option.{option_map_or}
 use Rattle.osc_word.specs.declared.orders.Start as thread
 use Rattle.osc_word.specs.declared.orders.Order.{Order}
@@ -10,9 +10,9 @@ use Rattle.osc_rv.specs.Instr.{instr_of}
 use Rattle.osc_guest.specs.declared.places.Place.{Place}
 use Rattle.osc_guest.specs.declared.places.Place.TheVariants as at
 use Rattle.osc_guest.specs.declared.places.Stage.TheVariants as stage
-use Rattle.osc_guest.specs.User.{UserHart, with_thread}
+use Rattle.osc_guest.specs.User.{UserHart, starting}
 use Rattle.osc_guest.specs.Accesses.{found_by}
-use Rattle.osc_guest.specs.Orders.{holding, obeyed, ordered}
+use Rattle.osc_guest.specs.Orders.{holding, obeyed}
 use Rattle.osc_guest.specs.Told.{Told, Box, Word, told, told_at}
 use Rattle.osc_guest.specs.Hands.{holds_box, held_after, order_in, order_after, gate_held, gate_after, start_told, runs_thread, runs_after, HandsMove, HandKept}
 use Rattle.osc_guest.specs.Laws.{count_after, ChoicesCounted}
@@ -36,7 +36,7 @@ run-out : (o : Order) (box : BoxState) (h : UserHart) → box.order ≡ o → Ou
 run-out o box h e = grind (arith, e, begun-calm (holding box h))
 
 idle-out : (o : Order) (box : BoxState) (h : UserHart) → box.order ≡ o → Out at.Idle h (Box box)
-idle-out (order.Start start) box h e = grind (arith, e, begun-calm (with_thread start (holding (obeyed box) h)))
+idle-out (order.Start start) box h e = grind (arith, e, begun-calm (starting start (holding (obeyed box) h)))
 idle-out o box h e = grind (arith, e)
 
 told-out : (p : Place) (h : UserHart) (t : Told) → h.place ≡ p → Out p h t

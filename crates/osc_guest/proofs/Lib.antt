@@ -7,3 +7,4 @@ pub mod Nearer
 pub mod Ranges
 pub mod Shows
 pub mod Conditional
+pub mod UnderWay

@@ -1,16 +1,17 @@
 -- Each fitting answer but Busy leads nearer to the end of the instruction.
-use Rattle.std.proofs.Common.{ℕ, zero, suc, ◌+◌, ◌-◌, ◌<◌, ◌≤◌, ◌≡◌, ◌≢◌, Bool, true, false, Option, Some, None, arith, refl}
+use Rattle.std.proofs.Common.{ℕ, suc, ◌+◌, ◌-◌, ◌≤◌, ◌≡◌, arith, refl, ap}
 use Rattle.osc_sv39.specs.declared.entries.PteEntry.{PteEntry}
 use Rattle.osc_rv.specs.declared.instr.Instr.{Instr}
 use Rattle.osc_isa.specs.declared.IntDone.{IntDone}
 use Rattle.osc_guest.specs.declared.accesses.MemoryAccess.{MemoryAccess}
+use Rattle.osc_guest.specs.declared.places.Place.{Place}
+use Rattle.osc_guest.specs.declared.places.Place.TheVariants as at
 use Rattle.osc_guest.specs.User.{UserHart}
 use Rattle.osc_guest.specs.Asks.{ask}
 use Rattle.osc_guest.specs.Looking.{reached, looked_up, walked}
 use Rattle.osc_guest.specs.Instructions.{executed}
-use Rattle.osc_guest.specs.Told.{Told, told}
-use Rattle.osc_guest.specs.Fits.{Fits}
-use Rattle.osc_guest.specs.Laws.{left_of, left, AnswersMove}
+use Rattle.osc_guest.specs.Told.{told}
+use Rattle.osc_guest.specs.Laws.{left_of, left, AnswersMove, FittingChanges}
 use Rattle.osc_guest.proofs.Hands.{told-levels}
 
 reached-left : (access : MemoryAccess) (frame top : ℕ) (h : UserHart) → left top (reached access frame h).hart.place ≤ left_of access.what top
@@ -32,3 +33,13 @@ executed-left i does top h e = grind (arith, e, looked_up-left)
 pub answers_move : AnswersMove
 unfolding ask told
 answers_move h t f b g k = grind (arith, f, b, g, k, told-levels h t, looked_up-left, walked-left, executed-left)
+
+pub fitting_changes : FittingChanges
+unfolding ask told
+fitting_changes h t f b k e = go h.place refl
+  where
+    go : (p : Place) → h.place ≡ p → ⊥
+    go (at.GiveBox follows) s = grind (arith, s, f, b, ap (λ (x : UserHart). x.place) e)
+    go p s =
+        let moves = answers_move h t f b (grind (arith, s)) k in
+        grind (arith, moves, ap (λ (x : UserHart). x.place) e)

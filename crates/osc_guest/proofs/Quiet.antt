@@ -1,5 +1,5 @@
 -- Where nothing commits, and where an access faults, registers and pc stay.
-use Rattle.std.proofs.Common.{ℕ, zero, suc, ◌≡◌, ◌≢◌, Bool, true, false, not, ◌||◌, Option, Some, None, is_some, arith, refl}
+use Rattle.std.proofs.Common.{ℕ, ◌≡◌, Bool, true, false, not, ◌||◌, Option, Some, None, is_some, arith}
 use Rattle.osc_sv39.specs.declared.entries.PteEntry.{PteEntry}
 use Rattle.osc_rv.specs.declared.instr.Instr.{Instr}
 use Rattle.osc_isa.specs.declared.IntDone.{IntDone}
@@ -11,8 +11,7 @@ use Rattle.osc_guest.specs.User.{UserHart, Answered}
 use Rattle.osc_guest.specs.Asks.{ask}
 use Rattle.osc_guest.specs.Looking.{reached, looked_up, walked}
 use Rattle.osc_guest.specs.Instructions.{executed}
-use Rattle.osc_guest.specs.Told.{Told, told}
-use Rattle.osc_guest.specs.Carry.{DoneShown}
+use Rattle.osc_guest.specs.Told.{told}
 use Rattle.osc_guest.specs.Laws.{FaultsKeep, SilenceKeeps}
 
 abbrev is_lost : Option Touch → Bool

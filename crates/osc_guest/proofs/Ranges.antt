@@ -3,26 +3,25 @@ use Rattle.std.proofs.Common.{ℕ, zero, suc, ◌<◌, ◌≡◌, Bool, true, fa
 use Rattle.osc_word.specs.declared.orders.Order.{Order}
 use Rattle.osc_word.specs.declared.orders.Order.TheVariants as order
 use Rattle.osc_sv39.specs.declared.entries.PteEntry.{PteEntry}
-use Rattle.osc_sv39.specs.declared.entries.PteEntry.TheVariants.{Absent, Table, Leaf, Reserved}
+use Rattle.osc_sv39.specs.declared.entries.PteEntry.TheVariants.{Table, Leaf}
 use Rattle.osc_sv39.specs.Entries.{entry_of}
 use Rattle.osc_paging.specs.Boxes.{BoxState}
-use Rattle.osc_guest.specs.declared.accesses.MemoryAccess.{MemoryAccess}
 use Rattle.osc_guest.specs.declared.places.Place.{Place}
 use Rattle.osc_guest.specs.declared.places.Place.TheVariants as at
 use Rattle.osc_guest.specs.declared.places.Stage.TheVariants as stage
-use Rattle.osc_guest.specs.User.{UserHart, box_or_new, cache_of}
-use Rattle.osc_guest.specs.Accesses.{page_of}
+use Rattle.osc_guest.specs.User.{UserHart, box_or_new}
+use Rattle.osc_guest.specs.Accesses.{access_page}
 use Rattle.osc_guest.specs.Asks.{ask, ask_at}
-use Rattle.osc_guest.specs.Told.{Told, Box, Busy, Word, Gate, OldVersion, Resumed, Done, told}
+use Rattle.osc_guest.specs.Told.{Told, Box, Word, Gate, Done, told}
 use Rattle.osc_guest.specs.Hands.{gate_held, gate_after, order_in, order_left, order_after, start_in, runs_by, runs_thread}
-use Rattle.osc_guest.specs.Carry.{CacheOk, PlaceOk, HartOk, ToldOk, RootIf, IdleBoxOk, EntryOk, may_walk}
-use Rattle.osc_guest.specs.Ranges.{page_in, table_in, OrderIn, ToldIn, HartIn, AskIn, AsksIn, RangeKept, BeginsIn}
+use Rattle.osc_guest.specs.Carry.{CacheOk, PlaceOk, ToldOk, RootIf, IdleBoxOk, EntryOk, may_walk}
+use Rattle.osc_guest.specs.Ranges.{PageIn, TableIn, OrderIn, ToldIn, AskIn, AsksIn, RangeKept, BeginsIn}
 use Rattle.osc_guest.proofs.Carry.{carries, empty-ok}
 use Rattle.osc_guest.proofs.Hands.{told-order, told-gate, told-runs, told-root, told-frames}
 
 module _ (frames : ℕ) where
   abbrev Within : ℕ → Place → Type 0
-  Within pid p = PlaceOk (page_in frames) (table_in frames) pid p
+  Within pid p = PlaceOk (PageIn frames) (TableIn frames) pid p
 
   asks_at : (p : Place) (h : UserHart) → Within 0 p → ((frame : ℕ) → gate_held p ≡ Some frame → frame < frames) → AskIn frames (ask_at p h)
   asks_at (at.Walk access level table) h k g = (k, omega arith)
@@ -36,7 +35,7 @@ module _ (frames : ℕ) where
 
   -- ---- what it has and is told is below the bound
   had : (p : Place) (h : UserHart) → (runs_thread p ≡ true → h.root < frames) → Within 0 p
-      → RootIf (may_walk p) (table_in frames) h.levels h.pid h.root × Within h.pid p
+      → RootIf (may_walk p) (TableIn frames) h.levels h.pid h.root × Within h.pid p
   had (at.Walk access level table) h r k = ((λ page e. r refl), k)
   had (at.Access access frame stage) h r k = ((λ page e. r refl), k)
   had _ h r k = (tt, tt)
@@ -46,29 +45,29 @@ module _ (frames : ℕ) where
   had-back pid (at.Access access frame stage) k = k
   had-back pid _ k = tt
 
-  run-root : (o : Order) (h : UserHart) → h.root < frames → RootIf (runs_by true o) (table_in frames) h.levels h.pid h.root
+  run-root : (o : Order) (h : UserHart) → h.root < frames → RootIf (runs_by true o) (TableIn frames) h.levels h.pid h.root
   run-root order.Empty h r = λ page e. r
   run-root (order.Start start) h r = λ page e. r
   run-root _ h r = tt
 
-  idle-box : (o : Order) (pid : ℕ) (box : BoxState) → OrderIn frames o → CacheOk (page_in frames) 0 box.slots
-      → IdleBoxOk (page_in frames) (table_in frames) pid (start_in o) box.slots
+  idle-box : (o : Order) (pid : ℕ) (box : BoxState) → OrderIn frames o → CacheOk (PageIn frames) 0 box.slots
+      → IdleBoxOk (PageIn frames) (TableIn frames) pid (start_in o) box.slots
   idle-box (order.Start start) pid box s c = ((λ page e. s.1), c)
   idle-box order.Empty pid box s c = c
   idle-box order.Stop pid box s c = c
   idle-box order.Over pid box s c = c
 
-  entry-in : (level page pid count : ℕ) (entry : PteEntry) → count ≡ frames → EntryOk (page_in frames) (table_in frames) count pid page level entry
+  entry-in : (level page pid count : ℕ) (entry : PteEntry) → count ≡ frames → EntryOk (PageIn frames) (TableIn frames) count pid page level entry
   entry-in zero page pid count (Leaf frame bits) e = λ less. (let q : frame < frames = grind (arith, less, e) in q)
   entry-in (suc level) page pid count (Table frame) e = λ less. (let q : frame < frames = grind (arith, less, e) in q)
   entry-in zero page pid count _ e = tt
   entry-in (suc level) page pid count _ e = tt
 
   told-in : (p : Place) (h : UserHart) (t : Told) → (runs_thread p ≡ true → h.frames ≡ frames) → (runs_thread p ≡ true → h.root < frames)
-      → ToldIn frames t → ToldOk (page_in frames) (table_in frames) h p t
+      → ToldIn frames t → ToldOk (PageIn frames) (TableIn frames) h p t
   told-in at.Run h (Box box) n r s = (run-root box.order h (r refl), s.0)
   told-in at.Idle h (Box box) n r s = idle-box box.order h.pid box s.1 s.0
-  told-in (at.Walk access level table) h (Word word) n r s = entry-in level (page_of access) h.pid h.frames (entry_of word) (n refl)
+  told-in (at.Walk access level table) h (Word word) n r s = entry-in level (access_page access) h.pid h.frames (entry_of word) (n refl)
   told-in p h t n r s = tt
 
   -- ---- after an answer
@@ -118,7 +117,7 @@ asks_in frames h k = asks_at frames h.place h k.place k.gate
 pub range_kept : RangeKept
 range_kept frames h t k s =
     let c = had frames h.place h k.root k.place in
-    let ok = carries (page_in frames) (table_in frames) h t (c.0, c.1, k.box.0) (told-in frames h.place h t k.count k.root s) in
+    let ok = carries (PageIn frames) (TableIn frames) h t (c.0, c.1, k.box.0) (told-in frames h.place h t k.count k.root s) in
     let runs = runs-in frames h.place h t refl (λ e. (k.count e, k.root e)) s in
     record {
       count = λ e. (runs e).0;
@@ -131,5 +130,5 @@ range_kept frames h t k s =
 
 pub begins_in : BeginsIn
 begins_in frames start s =
-    (record { count = λ e. absurd (let b : ⊥ = grind (arith, e) in b); root = λ e. absurd (let b : ⊥ = grind (arith, e) in b); place = tt; gate = λ frame e. absurd (let b : ⊥ = grind (arith, e) in b); box = (empty-ok (page_in frames) 0, tt) },
-    record { count = λ e. s.0; root = λ e. s.1; place = tt; gate = λ frame e. absurd (let b : ⊥ = grind (arith, e) in b); box = (empty-ok (page_in frames) 0, tt) })
+    (record { count = λ e. absurd (let b : ⊥ = grind (arith, e) in b); root = λ e. absurd (let b : ⊥ = grind (arith, e) in b); place = tt; gate = λ frame e. absurd (let b : ⊥ = grind (arith, e) in b); box = (empty-ok (PageIn frames) 0, tt) },
+    record { count = λ e. s.0; root = λ e. s.1; place = tt; gate = λ frame e. absurd (let b : ⊥ = grind (arith, e) in b); box = (empty-ok (PageIn frames) 0, tt) })

@@ -1,7 +1,7 @@
 -- What the pieces of a turn keep: they begin with the box in hand, and hold no gate.
 use Rattle.std.proofs.Common.{ℕ, zero, suc, ◌≡◌, Bool, true, false, Option, Some, None, is_some, arith, refl, ◌∙◌, nat_lt, ◌&&◌, ◌%◌, ◌==◌, if◌then◌else◌}
 use Rattle.osc_sv39.specs.declared.entries.PteEntry.{PteEntry}
-use Rattle.osc_sv39.specs.declared.entries.PteEntry.TheVariants.{Absent, Table, Leaf, Reserved}
+use Rattle.osc_sv39.specs.declared.entries.PteEntry.TheVariants.{Table, Leaf}
 use Rattle.osc_sv39.specs.declared.entries.Mapping.{Mapping}
 use Rattle.osc_sv39.specs.Entries.{is_allowed}
 use Rattle.osc_sv39.specs.Walk.{is_canonical}
@@ -15,7 +15,7 @@ use Rattle.osc_isa.specs.Integer.{done_of}
 use Rattle.osc_isa.specs.Traps.{Trap}
 use Rattle.osc_guest.specs.declared.accesses.MemoryAccess.{MemoryAccess}
 use Rattle.osc_guest.specs.User.{UserHart, Answered, cache_of, risen}
-use Rattle.osc_guest.specs.Accesses.{access_of, alignment_trap, fetch_at, kind_of, page_of}
+use Rattle.osc_guest.specs.Accesses.{access_of, alignment_trap, fetch_at, kind_of, access_page}
 use Rattle.osc_guest.specs.Looking.{lost, reached, seen, looked_up, leaf_found, walked, box_filled}
 use Rattle.osc_guest.specs.Instructions.{unless_misaligned, accessing, executed, decoded}
 use Rattle.osc_guest.specs.Orders.{begun}
@@ -48,8 +48,8 @@ seen-calm access Miss h = grind arith
 pub looked_up-calm : (access : MemoryAccess) (h : UserHart) → Calm h (looked_up access h)
 unfolding looked_up
 looked_up-calm access h =
-    either (Calm h) (is_canonical h.levels (page_of access)) _ _
-    (seen-calm access (look (cache_of h) (page_of access) (kind_of access.what)) h) (lost-calm access h)
+    either (Calm h) (is_canonical h.levels (access_page access)) _ _
+    (seen-calm access (look (cache_of h) (access_page access) (kind_of access.what)) h) (lost-calm access h)
 
 filled-same : (page : ℕ) (m : Mapping) (held : Option BoxState) → (is_some (box_filled page m held) ≡ is_some held) × (order_in (box_filled page m held) ≡ order_in held)
 filled-same page m None = (refl, refl)
@@ -57,8 +57,8 @@ filled-same page m (Some box) = (refl, refl)
 
 leaf-calm : (access : MemoryAccess) (m : Mapping) (h : UserHart) → Calm h (leaf_found access m h)
 leaf-calm access m h =
-    let c = reached-calm access m.frame (record h { held = box_filled (page_of access) m h.held }) in
-    let f = filled-same (page_of access) m h.held in
+    let c = reached-calm access m.frame (record h { held = box_filled (access_page access) m h.held }) in
+    let f = filled-same (access_page access) m h.held in
     either (Calm h) (nat_lt m.frame h.frames && is_allowed m.bits.0 (kind_of access.what)) _ _
     (c.0 ∙ f.0, c.1 ∙ f.1, c.2, c.3, c.4, c.5, c.6, c.7, c.8, c.9) (lost-calm access h)
 

@@ -1,15 +1,15 @@
 -- What an answer shows.
-use Rattle.std.proofs.Common.{ℕ, zero, suc, ◌/◌, ◌≡◌, Bool, true, false, not, Option, Some, None, arith, refl, sym, subst}
+use Rattle.std.proofs.Common.{ℕ, ◌≡◌, Bool, true, false, Option, Some, None, arith, refl, sym, subst}
 use Rattle.osc_sv39.specs.declared.entries.PteEntry.{PteEntry}
 use Rattle.osc_guest.specs.declared.accesses.MemoryAccess.{MemoryAccess}
 use Rattle.osc_guest.specs.declared.accesses.Touch.{Touch}
 use Rattle.osc_guest.specs.declared.places.Place.{Place}
 use Rattle.osc_guest.specs.declared.places.Place.TheVariants as at
 use Rattle.osc_guest.specs.User.{UserHart}
-use Rattle.osc_guest.specs.Accesses.{page_of, touch_of}
+use Rattle.osc_guest.specs.Accesses.{access_page, touch_of}
 use Rattle.osc_guest.specs.Looking.{reached, looked_up, walked}
 use Rattle.osc_guest.specs.Told.{Told, told}
-use Rattle.osc_guest.specs.Carry.{Pages, Tabs, HartOk, PlaceOk, done_with, DoneShown, ElseLost, Reaches, TouchesReach}
+use Rattle.osc_guest.specs.Carry.{Pages, Tabs, PlaceOk, access_done, DoneShown, ElseLost, Reaches, TouchesReach}
 
 pub done_shown : DoneShown
 unfolding told
@@ -32,7 +32,7 @@ walked-lost : (access : MemoryAccess) (level : ℕ) (entry : PteEntry) (h : User
 unfolding walked
 walked-lost access level entry h = grind (arith, reached-lost)
 
-else_done : (h : UserHart) (t : Told) → done_with h.place t ≡ None → is_done (told h t).touch ≡ false
+else_done : (h : UserHart) (t : Told) → access_done h.place t ≡ None → is_done (told h t).touch ≡ false
 unfolding told
 else_done h t n = grind (arith, n, looked_up-lost, walked-lost)
 
@@ -40,17 +40,17 @@ pub else_lost : ElseLost
 else_lost h t touch n e = grind (arith, e, else_done h t n)
 
 pub touches_reach : (Page : Pages) (Tab : Tabs) → TouchesReach Page Tab
-touches_reach Page Tab h t touch k e d = go h.place refl (done_with h.place t) refl k.1
+touches_reach Page Tab h t touch k e d = go h.place refl (access_done h.place t) refl k.1
   where
-    reach : (access : MemoryAccess) (frame : ℕ) → done_with h.place t ≡ Some access → Page h.pid (page_of access) frame → Reaches Page touch
+    reach : (access : MemoryAccess) (frame : ℕ) → access_done h.place t ≡ Some access → Page h.pid (access_page access) frame → Reaches Page touch
     reach access frame f p =
         let shown = done_shown h t access f in
         let same : touch_of access true h ≡ touch = grind (arith, e, shown) in
         subst (Reaches Page) same (record { frame = frame; ok = p })
 
-    go : (p : Place) → h.place ≡ p → (found : Option MemoryAccess) → done_with h.place t ≡ found → PlaceOk Page Tab h.pid p → Reaches Page touch
+    go : (p : Place) → h.place ≡ p → (found : Option MemoryAccess) → access_done h.place t ≡ found → PlaceOk Page Tab h.pid p → Reaches Page touch
     go p s None f k = absurd (let b : ⊥ = grind (arith, e, d, else_done h t f) in b)
     go (at.Access access frame stage) s (Some found) f k =
         let same : access ≡ found = grind (arith, s, f) in
-        reach access frame (subst (λ x. done_with h.place t ≡ Some x) (sym same) f) k
+        reach access frame (subst (λ x. access_done h.place t ≡ Some x) (sym same) f) k
     go p s (Some found) f k = absurd (let b : ⊥ = grind (arith, s, f) in b)

@@ -1,13 +1,11 @@
 -- What stays, and where a hart asks for what.
-use Rattle.std.proofs.Common.{ℕ, zero, suc, ◌<◌, ◌≡◌, ◌≢◌, Bool, true, false, Option, Some, None, arith, refl, sym, subst}
-use Rattle.osc_word.specs.declared.job_list.WordAt.{WordAt}
+use Rattle.std.proofs.Common.{◌≡◌, arith, refl}
 use Rattle.osc_guest.specs.declared.places.Place.{Place}
 use Rattle.osc_guest.specs.declared.places.Place.TheVariants as at
 use Rattle.osc_guest.specs.declared.places.Stage.TheVariants as stage
 use Rattle.osc_guest.specs.declared.places.Ask.TheVariants as asks
-use Rattle.osc_guest.specs.User.{UserHart, goes}
 use Rattle.osc_guest.specs.Asks.{ask, ask_at}
-use Rattle.osc_guest.specs.Told.{Told, Busy, Done, told}
+use Rattle.osc_guest.specs.Told.{told}
 use Rattle.osc_guest.specs.Laws.{BusyKeeps, RestStays, GivingLooksAway, TakersOfBox, Loaders, TakersOfGate, Storing, Storers, Openers, Givers, Callers, Resters, GivingMoves}
 
 pub busy_keeps : BusyKeeps

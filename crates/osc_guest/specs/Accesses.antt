@@ -60,8 +60,8 @@ kind_of (does.Amo op width operand) = Store
 kind_of (does.Lr width) = Load
 kind_of (does.Sc value) = Store
 
-abbrev pub page_of : MemoryAccess → ℕ
-page_of access = access.address / 4096
+abbrev pub access_page : MemoryAccess → ℕ
+access_page access = access.address / 4096
 
 abbrev pub touched_kind : Access → label.Access
 touched_kind Fetch = labelled.Fetch

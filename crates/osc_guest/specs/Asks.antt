@@ -10,12 +10,12 @@ use Rattle.osc_guest.specs.declared.places.Stage.TheVariants as stage
 use Rattle.osc_guest.specs.declared.places.Ask.{Ask}
 use Rattle.osc_guest.specs.declared.places.Ask.TheVariants as asks
 use Rattle.osc_guest.specs.User.{UserHart}
-use Rattle.osc_guest.specs.Accesses.{page_of, word_stored}
+use Rattle.osc_guest.specs.Accesses.{access_page, word_stored}
 
 -- the entry for the address in a table of this level
 abbrev pub entry_place : MemoryAccess → ℕ → ℕ → ℕ → WordAt
 entry_place access level table levels =
-    record { frame = table; index = piece level (number_of levels (page_of access)) % 512 }
+    record { frame = table; index = piece level (number_of levels (access_page access)) % 512 }
 
 -- the word of a frame that holds the bytes of an access
 abbrev pub word_place : MemoryAccess → ℕ → WordAt

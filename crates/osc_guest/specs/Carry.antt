@@ -18,7 +18,7 @@ use Rattle.osc_guest.specs.declared.places.Place.{Place}
 use Rattle.osc_guest.specs.declared.places.Place.TheVariants as at
 use Rattle.osc_guest.specs.declared.places.Stage.TheVariants as stage
 use Rattle.osc_guest.specs.User.{UserHart, cache_of}
-use Rattle.osc_guest.specs.Accesses.{page_of, touch_of}
+use Rattle.osc_guest.specs.Accesses.{access_page, touch_of}
 use Rattle.osc_guest.specs.Told.{Told, Box, Word, Done, told}
 use Rattle.osc_guest.specs.Hands.{start_in, runs_by}
 
@@ -31,11 +31,11 @@ abbrev pub Tabs : Type 1
 Tabs = ℕ → ℕ → ℕ → ℕ → Type 0
 
 -- those of a set
-abbrev pub pages_in : (ℕ → ℕ → ℕ → Bool) → Pages
-pages_in pages pid page frame = pages pid page frame ≡ true
+abbrev pub InPages : (ℕ → ℕ → ℕ → Bool) → Pages
+InPages pages pid page frame = pages pid page frame ≡ true
 
-abbrev pub tables_in : (ℕ → ℕ → ℕ → ℕ → Bool) → Tabs
-tables_in tables pid level page table = tables pid level page table ≡ true
+abbrev pub InTables : (ℕ → ℕ → ℕ → ℕ → Bool) → Tabs
+InTables tables pid level page table = tables pid level page table ≡ true
 
 -- ---- what a hart has
 -- it holds its box and may yet walk. A hart between two instructions may not, since its process may end
@@ -56,8 +56,8 @@ RootIf true Tab levels pid root = RootOk Tab levels pid root
 RootIf false Tab levels pid root = Unit {0}
 
 abbrev pub PlaceOk : Pages → Tabs → ℕ → Place → Type 0
-PlaceOk Page Tab pid (at.Walk access level table) = Tab pid level (page_of access) table
-PlaceOk Page Tab pid (at.Access access frame stage) = Page pid (page_of access) frame
+PlaceOk Page Tab pid (at.Walk access level table) = Tab pid level (access_page access) table
+PlaceOk Page Tab pid (at.Access access frame stage) = Page pid (access_page access) frame
 PlaceOk Page Tab pid _ = Unit {0}
 
 abbrev pub HartOk : Pages → Tabs → UserHart → Type 0
@@ -83,7 +83,7 @@ abbrev pub ToldOk : Pages → Tabs → UserHart → Place → Told → Type 0
 ToldOk Page Tab h at.Run (Box box) = RunBoxOk Page Tab h box
 ToldOk Page Tab h at.Idle (Box box) = IdleBoxOk Page Tab h.pid (start_in box.order) box.slots
 ToldOk Page Tab h (at.Walk access level table) (Word word) =
-    EntryOk Page Tab h.frames h.pid (page_of access) level (entry_of word)
+    EntryOk Page Tab h.frames h.pid (access_page access) level (entry_of word)
 ToldOk Page Tab h place t = Unit {0}
 
 abbrev pub Carries : Pages → Tabs → Type 0
@@ -92,7 +92,7 @@ Carries Page Tab =
 
 abbrev pub SetsCarried : Type 0
 SetsCarried =
-    (pages : ℕ → ℕ → ℕ → Bool) (tables : ℕ → ℕ → ℕ → ℕ → Bool) → Carries (pages_in pages) (tables_in tables)
+    (pages : ℕ → ℕ → ℕ → Bool) (tables : ℕ → ℕ → ℕ → ℕ → Bool) → Carries (InPages pages) (InTables tables)
 
 -- ---- what it shows
 -- an LR is done with its load, all else under a gate with its store
@@ -101,24 +101,24 @@ if_loaded (does.Lr width) access = Some access
 if_loaded _ access = None
 
 -- the access that is done with this answer
-abbrev pub done_with : Place → Told → Option MemoryAccess
-done_with (at.Access access frame stage.Fetch) (Word word) = Some access
-done_with (at.Access access frame stage.Load) (Word word) = Some access
-done_with (at.Access access frame (stage.GatedLoad version)) (Word word) = if_loaded access.what access
-done_with (at.Access access frame (stage.GatedStore version found)) Done = Some access
-done_with place t = None
+abbrev pub access_done : Place → Told → Option MemoryAccess
+access_done (at.Access access frame stage.Fetch) (Word word) = Some access
+access_done (at.Access access frame stage.Load) (Word word) = Some access
+access_done (at.Access access frame (stage.GatedLoad version)) (Word word) = if_loaded access.what access
+access_done (at.Access access frame (stage.GatedStore version found)) Done = Some access
+access_done place t = None
 
 -- each access that is done is shown
 abbrev pub DoneShown : Type 0
 DoneShown =
     (h : UserHart) (t : Told) (access : MemoryAccess)
-    → done_with h.place t ≡ Some access → (told h t).touch ≡ Some (touch_of access true h)
+    → access_done h.place t ≡ Some access → (told h t).touch ≡ Some (touch_of access true h)
 
 -- and what is shown else was not done
 abbrev pub ElseLost : Type 0
 ElseLost =
     (h : UserHart) (t : Told) (touch : Touch)
-    → done_with h.place t ≡ None → (told h t).touch ≡ Some touch → touch.done ≡ false
+    → access_done h.place t ≡ None → (told h t).touch ≡ Some touch → touch.done ≡ false
 
 -- a page of a process that an access reached
 pub record Reaches (Page : Pages) (touch : Touch) : Type 0 where
@@ -132,4 +132,4 @@ TouchesReach Page Tab =
 
 abbrev pub SetsReached : Type 0
 SetsReached =
-    (pages : ℕ → ℕ → ℕ → Bool) (tables : ℕ → ℕ → ℕ → ℕ → Bool) → TouchesReach (pages_in pages) (tables_in tables)
+    (pages : ℕ → ℕ → ℕ → Bool) (tables : ℕ → ℕ → ℕ → ℕ → Bool) → TouchesReach (InPages pages) (InTables tables)

@@ -13,7 +13,7 @@ use Rattle.osc_guest.specs.declared.places.Place.TheVariants as at
 use Rattle.osc_guest.specs.declared.places.Stage.{Stage}
 use Rattle.osc_guest.specs.declared.places.Stage.TheVariants as stage
 use Rattle.osc_guest.specs.declared.places.Ask.TheVariants as asks
-use Rattle.osc_guest.specs.User.{UserHart, goes, emptied, risen}
+use Rattle.osc_guest.specs.User.{UserHart, goes, without_box, risen}
 use Rattle.osc_guest.specs.Accesses.{word_stored}
 use Rattle.osc_guest.specs.Asks.{ask, word_place}
 use Rattle.osc_guest.specs.Told.{Told, Busy, Done, told}
@@ -29,7 +29,7 @@ RestStays = (h : UserHart) (t : Told) → h.place ≡ at.Rest → (ask h ≡ ask
 
 -- what is made of a giving doesn't look at the box, which may be out of the hand by then
 abbrev pub GivingLooksAway : Type 0
-GivingLooksAway = (h : UserHart) → ask h ≡ asks.GiveBox → told (emptied h) Done ≡ told h Done
+GivingLooksAway = (h : UserHart) → ask h ≡ asks.GiveBox → told (without_box h) Done ≡ told h Done
 
 -- ---- counts and registers
 -- the count of instructions rises with each choice, and else stands still
@@ -91,6 +91,12 @@ AnswersMove =
 abbrev pub GivingMoves : Type 0
 GivingMoves =
     (h : UserHart) → ask h ≡ asks.GiveBox → (ask (told h Done).hart ≢ asks.GiveBox) × ((told h Done).hart.held ≡ None)
+
+-- so each fitting answer but Busy changes the hart, outside a call
+abbrev pub FittingChanges : Type 0
+FittingChanges =
+    (h : UserHart) (t : Told)
+    → Fits (ask h) t → t ≢ Busy → ((asked : Request) → ask h ≢ asks.Kernel asked) → (told h t).hart ≢ h
 
 -- ---- which places ask for what
 abbrev pub TakersOfBox : Type 0

@@ -12,3 +12,4 @@ pub mod Ranges
 pub mod Laws
 pub mod AccessLaws
 pub mod Worked
+pub mod WorkedOrders

@@ -27,7 +27,7 @@ use Rattle.osc_guest.specs.declared.places.Stage.{Stage}
 use Rattle.osc_guest.specs.declared.places.Stage.TheVariants as stage
 use Rattle.osc_guest.specs.declared.places.After.TheVariants as after
 use Rattle.osc_guest.specs.User.{UserHart, Answered, cache_of, risen, moved, goes, commits, touching}
-use Rattle.osc_guest.specs.Accesses.{page_of, kind_of, touch_of, page_fault, reserved_version}
+use Rattle.osc_guest.specs.Accesses.{access_page, kind_of, touch_of, page_fault, reserved_version}
 
 -- ---- calls, faults and failed stores
 -- the hart gives its box and then takes the kernel; a call ends its reservation
@@ -79,8 +79,8 @@ seen access Miss h = goes (record h { walks = risen h.walks; place = at.Walk acc
 -- an address that is not canonical is not looked up
 unfoldable pub looked_up : MemoryAccess → UserHart → Answered
 looked_up access h =
-    if is_canonical h.levels (page_of access)
-    then seen access (look (cache_of h) (page_of access) (kind_of access.what)) h
+    if is_canonical h.levels (access_page access)
+    then seen access (look (cache_of h) (access_page access) (kind_of access.what)) h
     else lost access h
 
 -- ---- the walk
@@ -92,7 +92,7 @@ box_filled page mapping (Some box) = Some (record box { slots = filled box.slots
 abbrev pub leaf_found : MemoryAccess → Mapping → UserHart → Answered
 leaf_found access mapping h =
     if nat_lt mapping.frame h.frames && is_allowed mapping.bits.0 (kind_of access.what)
-    then reached access mapping.frame (record h { held = box_filled (page_of access) mapping h.held })
+    then reached access mapping.frame (record h { held = box_filled (access_page access) mapping h.held })
     else lost access h
 
 -- a link leads to the table of the next level

@@ -8,7 +8,7 @@ use Rattle.osc_isa.specs.Traps.{misaligned_target}
 use Rattle.osc_paging.specs.Boxes.{BoxState}
 use Rattle.osc_guest.specs.declared.places.Place.TheVariants as at
 use Rattle.osc_guest.specs.declared.places.After.TheVariants as after
-use Rattle.osc_guest.specs.User.{UserHart, Answered, with_thread, moved, goes}
+use Rattle.osc_guest.specs.User.{UserHart, Answered, starting, moved, goes}
 use Rattle.osc_guest.specs.Accesses.{fetch_at}
 use Rattle.osc_guest.specs.Looking.{calling, faulted, looked_up}
 
@@ -35,4 +35,4 @@ ordered running Stop box h = goes (calling request.Idle (holding (obeyed box) h)
 ordered running Over box h = goes (moved (at.GiveBox after.Rest) (holding box h))
 ordered true order box h = begun (holding box h)
 ordered false Empty box h = goes (moved (at.GiveBox after.Idle) (holding box h))
-ordered false (Start start) box h = begun (with_thread start (holding (obeyed box) h))
+ordered false (Start start) box h = begun (starting start (holding (obeyed box) h))

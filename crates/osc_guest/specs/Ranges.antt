@@ -1,6 +1,6 @@
 -- A hart asks only for what the machine has: it tests the number of each frame that it reads from memory
 -- against the machine's count, which comes with its thread.
-use Rattle.std.specs.Prelude.{ℕ, ◌≡◌, ◌<◌, true, Option, Some, None}
+use Rattle.std.specs.Prelude.{ℕ, ◌≡◌, ◌<◌, true, Some}
 use Rattle.osc_word.specs.declared.orders.Start as thread
 use Rattle.osc_word.specs.declared.orders.Order.{Order}
 use Rattle.osc_word.specs.declared.orders.Order.TheVariants.{Empty, Start, Stop, Over}
@@ -14,11 +14,11 @@ use Rattle.osc_guest.specs.Hands.{gate_held, runs_thread}
 use Rattle.osc_guest.specs.Carry.{Pages, Tabs, CacheOk, PlaceOk}
 
 -- a page, or a table, in one of so many frames
-abbrev pub page_in : ℕ → Pages
-page_in frames pid page frame = frame < frames
+abbrev pub PageIn : ℕ → Pages
+PageIn frames pid page frame = frame < frames
 
-abbrev pub table_in : ℕ → Tabs
-table_in frames pid level page table = table < frames
+abbrev pub TableIn : ℕ → Tabs
+TableIn frames pid level page table = table < frames
 
 abbrev pub StartIn : ℕ → thread.Start → Type 0
 StartIn frames start = (start.frames ≡ frames) × (start.root < frames)
@@ -30,7 +30,7 @@ OrderIn frames Stop = Unit {0}
 OrderIn frames Over = Unit {0}
 
 abbrev pub BoxIn : ℕ → BoxState → Type 0
-BoxIn frames box = CacheOk (page_in frames) 0 box.slots × OrderIn frames box.order
+BoxIn frames box = CacheOk (PageIn frames) 0 box.slots × OrderIn frames box.order
 
 -- a box that is told has only frames of the machine
 abbrev pub ToldIn : ℕ → Told → Type 0
@@ -41,7 +41,7 @@ ToldIn frames t = Unit {0}
 pub record HartIn (frames : ℕ) (h : UserHart) : Type 0 where
   pub count : runs_thread h.place ≡ true → h.frames ≡ frames
   pub root : runs_thread h.place ≡ true → h.root < frames
-  pub place : PlaceOk (page_in frames) (table_in frames) 0 h.place
+  pub place : PlaceOk (PageIn frames) (TableIn frames) 0 h.place
   pub gate : (frame : ℕ) → gate_held h.place ≡ Some frame → frame < frames
   pub box : BoxIn frames (handed h)
 

@@ -1,5 +1,5 @@
 -- What a hart makes of the answer to its action. It is this project's own.
-use Rattle.std.specs.Prelude.{ℕ, ◌+◌, true, false, Option, Some, None}
+use Rattle.std.specs.Prelude.{ℕ, ◌+◌, true, false, Some, None}
 use Rattle.osc_word.specs.declared.calls.Request.TheVariants as request
 use Rattle.osc_word.specs.declared.calls.Call.TheVariants.{End}
 use Rattle.osc_word.specs.declared.calls.Resume.{Resume}
@@ -70,14 +70,14 @@ access_told _ access frame h t = goes h
 
 -- ---- boxes and calls
 -- where a hart is once it gave its box
-abbrev pub place_after : After → Place
-place_after after.Run = at.Run
-place_after (after.Call asked) = at.Call asked
-place_after after.Idle = at.Idle
-place_after after.Rest = at.Rest
+abbrev pub place_then : After → Place
+place_then after.Run = at.Run
+place_then (after.Call asked) = at.Call asked
+place_then after.Idle = at.Idle
+place_then after.Rest = at.Rest
 
 abbrev pub given : After → UserHart → UserHart
-given follows h = record h { place = place_after follows; held = None }
+given follows h = record h { place = place_then follows; held = None }
 
 -- the kernel was given back, and the call of a thread has this answer
 abbrev pub resumed : Resume → UserHart → UserHart

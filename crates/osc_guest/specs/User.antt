@@ -53,8 +53,8 @@ user_idle = record {
 }
 
 -- the hart with another thread, without a reservation
-abbrev pub with_thread : Start → UserHart → UserHart
-with_thread start h = record h {
+abbrev pub starting : Start → UserHart → UserHart
+starting start h = record h {
   pid = start.pid;
   root = start.root;
   levels = start.levels;
@@ -66,7 +66,7 @@ with_thread start h = record h {
 
 -- a hart that runs a thread from its beginning
 abbrev pub user_begin : Start → UserHart
-user_begin start = record (with_thread start user_idle) { place = at.Run }
+user_begin start = record (starting start user_idle) { place = at.Run }
 
 -- the box as the hart leaves it
 abbrev pub box_or_new : Option BoxState → BoxState
@@ -77,8 +77,8 @@ abbrev pub handed : UserHart → BoxState
 handed h = box_or_new h.held
 
 -- the hart once its box was taken out of its hand
-abbrev pub emptied : UserHart → UserHart
-emptied h = record h { held = None }
+abbrev pub without_box : UserHart → UserHart
+without_box h = record h { held = None }
 
 -- the cache of the box that it holds
 abbrev pub cache_of : UserHart → List (Option CacheEntry)

@@ -3,7 +3,7 @@
 ghost use Rattle.osc_guest.specs.Hands.{HandsMove, HandKept};
 ghost use Rattle.osc_guest.specs.Carry.{SetsCarried, DoneShown, ElseLost, SetsReached};
 ghost use Rattle.osc_guest.specs.Ranges.{AsksIn, RangeKept, BeginsIn};
-ghost use Rattle.osc_guest.specs.AccessLaws.{ReservationsKept, LoadsAligned, StoresAligned};
+ghost use Rattle.osc_guest.specs.AccessLaws.{AccessesKept, ReservationsKept, LoadsAligned, StoresAligned};
 ghost use Rattle.osc_guest.specs.Laws.{
   BusyKeeps,
   RestStays,
@@ -21,6 +21,7 @@ ghost use Rattle.osc_guest.specs.Laws.{
   Resters,
   AnswersMove,
   GivingMoves,
+  FittingChanges,
 };
 
 /// A hart that is told that the thing was taken stays as it was, a hart at rest asks for nothing,
@@ -73,6 +74,7 @@ pub fn places_ask()
 pub fn answers_move()
     ensures nearer { AnswersMove }
     ensures given { GivingMoves }
+    ensures changed { FittingChanges }
 {}
 
 /// A hart asks only for frames that the machine has, since it tests the number of each frame that
@@ -83,10 +85,12 @@ pub fn asks_within()
     ensures begins { BeginsIn }
 {}
 
-/// A store-conditional is at the gate and stores only with the version of the reservation for it;
-/// and the alignment of loads and stores is that of the integer instructions.
+/// An access under way is aligned, and a fetch is that at the pc; a store-conditional is at the gate
+/// and stores only with the version of the reservation for it; and the alignment of loads and stores
+/// is that of the integer instructions.
 pub fn accesses_fit()
     ensures conditional { ReservationsKept }
     ensures loads { LoadsAligned }
     ensures stores { StoresAligned }
+    ensures under_way { AccessesKept }
 {}

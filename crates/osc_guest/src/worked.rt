@@ -13,13 +13,15 @@ ghost use Rattle.osc_guest.specs.Worked.{
   ScSucceeds,
   ScOutdated,
   ScUnreserved,
+  PartsKept,
+};
+ghost use Rattle.osc_guest.specs.WorkedOrders.{
   EcallAsks,
   FirstPcFaults,
   FourReachFurther,
   StopObeyed,
   OverObeyed,
   StartObeyed,
-  PartsKept,
 };
 
 /// `addi` takes three actions where the fetch hits the cache, and six where it misses; with four levels
