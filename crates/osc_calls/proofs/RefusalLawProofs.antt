@@ -27,7 +27,7 @@ use Rattle.osc_calls.specs.HeapPlans.{terms_of, malloc_by, free_by, free_of, rea
 use Rattle.osc_calls.specs.WritePlan.{write_by, first_unreadable, write_count}
 use Rattle.osc_calls.specs.ProcessPlans.{done_by, value_left, fork_done, spawn_done, share_done}
 use Rattle.osc_calls.specs.Plan.{plan_meant}
-use Rattle.osc_calls.specs.CallLaws.{is_refused, RefusedCallsKeep}
+use Rattle.osc_calls.specs.CallLaws.{is_denied, RefusedCallsKeep}
 
 -- ---- an answer alone
 -- an element that is put where it stands changes nothing
@@ -43,9 +43,9 @@ outcome-keeps pid p kernel o e f =
     ∙ ap (λ ps. answered o.answer (record kernel { processes = ps })) (set-same kernel.processes pid p e)
 
 abbrev Keeps : Outcome → Draft → Type 0
-Keeps o d = is_refused o.answer ≡ true → o ≡ unchanged o.answer d
+Keeps o d = is_denied o.answer ≡ true → o ≡ unchanged o.answer d
 
-unless-keeps : (r : Option Answer) (d : Draft) (made : Outcome) → is_refused made.answer ≡ false → Keeps (unless r d made) d
+unless-keeps : (r : Option Answer) (d : Draft) (made : Outcome) → is_denied made.answer ≡ false → Keeps (unless r d made) d
 unless-keeps (Some a) d made e h = refl
 unless-keeps None d made e h = cc
 
@@ -90,9 +90,9 @@ realloc-keeps Oscar terms pointer size found d h = realloc-seen-keeps (object_at
 realloc-keeps Plain terms pointer size found d h = plain-realloc-keeps (block_of_user d.space.heap.held pointer) terms.harts size found.second d h
 
 abbrev Alone : Planned → KernelState → Type 0
-Alone made kernel = is_refused made.answer ≡ true → made ≡ answered made.answer kernel
+Alone made kernel = is_denied made.answer ≡ true → made ≡ answered made.answer kernel
 
-planned-alone : (r : Option Answer) (kernel : KernelState) (made : Planned) → is_refused made.answer ≡ false → Alone (planned_unless r kernel made) kernel
+planned-alone : (r : Option Answer) (kernel : KernelState) (made : Planned) → is_denied made.answer ≡ false → Alone (planned_unless r kernel made) kernel
 planned-alone (Some a) kernel made e h = refl
 planned-alone None kernel made e h = cc
 
