@@ -89,7 +89,7 @@ freed object terms d = record {
 abbrev pub free_seen : Option Seen → Terms → Found → Draft → Outcome
 free_seen None terms found d = unchanged NotAnObject d
 free_seen (Some s) terms found d =
-    unless (first_reason (object_reasons s found)) d (freed s.number terms (let_wait terms s d))
+    unless (first_reason (object_reasons (Some s) found)) d (freed s.number terms (let_wait terms s d))
 
 -- `found` is the header of the object as it stands in memory; where no live object has this address
 -- there is none, and it isn't looked at

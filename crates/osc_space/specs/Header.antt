@@ -59,8 +59,9 @@ death_reasons object (Dead call) = reason true (answer.DoubleFree object call) �
 abbrev pub damage_reason : ℕ → ℕ → Reason
 damage_reason kept found = reason (not (kept == found)) (answer.HeaderDamaged kept found)
 
--- the object is dead, or its header is damaged
-abbrev pub object_reasons : Seen → Found → List Reason
-object_reasons s found =
+-- why what stands at a pointer is not taken: it is no object, it is dead, or its header is damaged
+abbrev pub object_reasons : Option Seen → Found → List Reason
+object_reasons None found = reason true answer.NotAnObject ∷ []
+object_reasons (Some s) found =
     death_reasons s.number s.fact.state
     ++ damage_reason s.fact.canon found.first ∷ damage_reason s.fact.size found.second ∷ []

@@ -15,3 +15,10 @@ pub mod Share
 pub mod Finish
 pub mod Agree
 pub mod Used
+pub mod ObjectLaws
+pub mod WordLaws
+pub mod RefusalLaws
+pub mod PlanLaws
+pub mod ForkLaws
+pub mod Examples
+pub mod AgreeExamples

@@ -1,7 +1,7 @@
 -- The plain heap: the same blocks at their canonical addresses, without objects and shadows. A page is
 -- mapped while it holds a block; only where a page's frame is given back is it unmapped, and are the
 -- boxes cleared. Leaf tables stay until the process ends. This project's own.
-use Rattle.std.specs.Prelude.{ℕ, ◌+◌, ◌-◌, ◌/◌, min, Bool, true, false, not, Option, Some, None, List, [], ◌∷◌, filter}
+use Rattle.std.specs.Prelude.{ℕ, ◌+◌, ◌-◌, ◌/◌, min, Bool, true, false, not, Option, Some, None, List, [], ◌∷◌, filter, if◌then◌else◌}
 use Rattle.std.specs.List.{range_with_len}
 use Rattle.osc_word.specs.declared.calls.Answer.TheVariants.{Placed, Nothing, NotAnObject}
 use Rattle.osc_class.specs.declared.Room.{Room}
@@ -10,7 +10,7 @@ use Rattle.osc_slot.specs.declared.Block.{Block}
 use Rattle.osc_slot.specs.Slots.{is_room, is_covered}
 use Rattle.osc_slot.specs.Heap.{next_block, without_block, block_of_user}
 use Rattle.osc_paging.specs.TableChanges.{map_pages}
-use Rattle.osc_space.specs.Space.{Draft, Outcome, Keeps, GivesBack, Reason, first_reason, unless, unchanged, lack_of_frames, push, change}
+use Rattle.osc_space.specs.Space.{Draft, Outcome, Keeps, GivesBack, Reason, reason, first_reason, unless, unchanged, lack_of_frames, push, change}
 use Rattle.osc_space.specs.BlockWords.{mappings_of, copy_jobs, trim_jobs}
 use Rattle.osc_space.specs.Malloc.{block_need, place_block, fill_block}
 use Rattle.osc_space.specs.Free.{clear_jobs, unmap_all}
@@ -51,6 +51,11 @@ unmap_emptied (page ∷ pages) harts d = push (clear_jobs harts) (change (unmap_
 abbrev pub let_go_plain : ℕ → Block → Draft → Draft
 let_go_plain harts block d = unmap_emptied (emptied_pages d.space.heap.held block) harts d
 
+-- no block starts there
+abbrev pub block_reasons : Option Block → List Reason
+block_reasons None = reason true NotAnObject ∷ []
+block_reasons (Some block) = []
+
 abbrev pub plain_free_of : Option Block → ℕ → Draft → Outcome
 plain_free_of None harts d = unchanged NotAnObject d
 plain_free_of (Some block) harts d =
@@ -83,14 +88,18 @@ plain_move harts old n bytes block d = record {
 
 abbrev pub plain_resize : Bool → ℕ → Block → ℕ → ℕ → Draft → Outcome
 plain_resize true harts block n bytes d = plain_stay block n bytes d
-plain_resize false harts block n bytes d =
-    unless (first_reason (plain_reasons (room_of n) d)) d
-    (plain_move harts block n bytes (next_block d.space.heap (room_of n)) d)
+plain_resize false harts block n bytes d = plain_move harts block n bytes (next_block d.space.heap (room_of n)) d
+
+-- where the block does not stay, another is wanted
+abbrev pub plain_realloc_reasons : Option Block → ℕ → Draft → List Reason
+plain_realloc_reasons None n d = block_reasons None
+plain_realloc_reasons (Some block) n d = if is_room (room_of n) block.room then [] else plain_reasons (room_of n) d
 
 abbrev pub plain_realloc_of : Option Block → ℕ → ℕ → ℕ → Draft → Outcome
 plain_realloc_of None harts n size d = unchanged NotAnObject d
 plain_realloc_of (Some block) harts n size d =
-    plain_resize (is_room (room_of n) block.room) harts block n (kept_bytes block size n) d
+    unless (first_reason (plain_realloc_reasons (Some block) n d)) d
+    (plain_resize (is_room (room_of n) block.room) harts block n (kept_bytes block size n) d)
 
 -- `size` is the second word of the block's header, as it was found
 unfoldable pub plain_realloc_plan : ℕ → ℕ → ℕ → ℕ → Draft → Outcome

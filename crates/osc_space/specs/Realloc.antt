@@ -13,7 +13,7 @@ use Rattle.osc_slot.specs.Heap.{next_block}
 use Rattle.osc_space.specs.declared.ObjectFact.{ObjectFact}
 use Rattle.osc_space.specs.Objects.{Seen, next_page, next_object, object_at}
 use Rattle.osc_space.specs.Header.{Found, object_reasons, block_of}
-use Rattle.osc_space.specs.Space.{Draft, Terms, Outcome, GivesBack, Reason, reason, first_reason, unless, unchanged, push}
+use Rattle.osc_space.specs.Space.{Draft, Terms, Outcome, GivesBack, Reason, first_reason, unless, unchanged, push}
 use Rattle.osc_space.specs.BlockWords.{zero_block, header_jobs, copy_jobs, trim_jobs}
 use Rattle.osc_space.specs.Malloc.{memory_reasons, block_need, place_block, grant_object, map_shadows, next_user}
 use Rattle.osc_space.specs.Free.{waiting_facts, waiting_blocks, kill_object, unmap_object, flush}
@@ -69,10 +69,11 @@ realloc_in stay terms s n block d = record {
 abbrev pub realloc_made : Bool → Terms → Seen → ℕ → Draft → Outcome
 realloc_made stay terms s n d = realloc_in stay terms s n (block_for stay s.fact n d) d
 
+-- the old object first, and then the memory
 abbrev pub realloc_reasons : Option Seen → ℕ → Found → Draft → List Reason
-realloc_reasons None n found d = reason true NotAnObject ∷ []
+realloc_reasons None n found d = object_reasons None found
 realloc_reasons (Some s) n found d =
-    object_reasons s found ++ memory_reasons (frames_for (stays s.fact n) n d) (shadow_pages (room_of n)) d
+    object_reasons (Some s) found ++ memory_reasons (frames_for (stays s.fact n) n d) (shadow_pages (room_of n)) d
 
 abbrev pub realloc_seen : Option Seen → Terms → ℕ → Found → Draft → Outcome
 realloc_seen None terms n found d = unchanged NotAnObject d

@@ -3,6 +3,9 @@
 //! lists together with the jobs that it leaves. The code of the plans stands in the crates above.
 #![tactic(auto)]
 
+pub mod examples;
+pub mod laws;
+
 use osc_word::WordAt;
 
 /// Whether an object lives.
