@@ -18,7 +18,7 @@ use Rattle.osc_space.specs.Header.{Found, object_reasons}
 use Rattle.osc_space.specs.Malloc.{malloc_plan, malloc_reasons}
 use Rattle.osc_space.specs.Free.{free_plan, free_seen}
 use Rattle.osc_space.specs.Realloc.{realloc_plan, realloc_seen, realloc_reasons, realloc_made, stays}
-use Rattle.osc_space.specs.PlainHeap.{plain_malloc_plan, plain_free_plan, plain_free_of, plain_realloc_plan, plain_realloc_of, plain_resize, plain_reasons, kept_bytes}
+use Rattle.osc_space.specs.PlainHeap.{plain_malloc_plan, plain_free_plan, plain_free_of, plain_realloc_plan, plain_realloc_of, plain_realloc_reasons, plain_resize, plain_reasons, kept_bytes}
 use Rattle.osc_calls.specs.Kernel.{KernelState, Process, Calling, process_at, is_last}
 use Rattle.osc_calls.specs.Requests.{meant}
 use Rattle.osc_calls.specs.Refusals.{draft_of, refusal_of}
@@ -56,7 +56,7 @@ malloc-keeps Plain size d h = unless-keeps (first_reason (plain_reasons (room_of
 
 free-seen-keeps : (s : Option Seen) (terms : Terms) (found : Found) (d : Draft) → Keeps (free_seen s terms found d) d
 free-seen-keeps None terms found d h = refl
-free-seen-keeps (Some s) terms found d h = unless-keeps (first_reason (object_reasons s found)) d _ refl h
+free-seen-keeps (Some s) terms found d h = unless-keeps (first_reason (object_reasons (Some s) found)) d _ refl h
 
 plain-free-keeps : (b : Option Block) (harts : ℕ) (d : Draft) → Keeps (plain_free_of b harts d) d
 plain-free-keeps None harts d h = refl
@@ -76,13 +76,16 @@ realloc-seen-keeps None terms size found d h = refl
 realloc-seen-keeps (Some s) terms size found d h =
     unless-keeps (first_reason (realloc_reasons (Some s) size found d)) d (realloc_made (stays s.fact size) terms s size d) refl h
 
-plain-resize-keeps : (stay : Bool) (harts : ℕ) (block : Block) (n bytes : ℕ) (d : Draft) → Keeps (plain_resize stay harts block n bytes d) d
-plain-resize-keeps true harts block n bytes d h = cc
-plain-resize-keeps false harts block n bytes d h = unless-keeps (first_reason (plain_reasons (room_of n) d)) d _ refl h
+resize-given : (stay : Bool) (harts : ℕ) (block : Block) (n bytes : ℕ) (d : Draft) → is_denied (plain_resize stay harts block n bytes d).answer ≡ false
+resize-given true harts block n bytes d = refl
+resize-given false harts block n bytes d = refl
 
 plain-realloc-keeps : (b : Option Block) (harts n size : ℕ) (d : Draft) → Keeps (plain_realloc_of b harts n size d) d
 plain-realloc-keeps None harts n size d h = refl
-plain-realloc-keeps (Some block) harts n size d h = plain-resize-keeps (is_room (room_of n) block.room) harts block n (kept_bytes block size n) d h
+plain-realloc-keeps (Some block) harts n size d h =
+    unless-keeps (first_reason (plain_realloc_reasons (Some block) n d)) d
+    (plain_resize (is_room (room_of n) block.room) harts block n (kept_bytes block size n) d)
+    (resize-given (is_room (room_of n) block.room) harts block n (kept_bytes block size n) d) h
 
 realloc-keeps : (kind : HeapKind) (terms : Terms) (pointer size : ℕ) (found : Found) (d : Draft) → Keeps (realloc_by kind terms pointer size found d) d
 unfolding realloc_plan plain_realloc_plan
