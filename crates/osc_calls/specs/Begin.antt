@@ -34,8 +34,8 @@ first_step c p kernel (calls.Free pointer) = free_step kernel.config.heap p.spac
 first_step c p kernel (calls.Realloc pointer size) = realloc_step kernel.config.heap p.space pointer
 first_step c p kernel _ = Planned
 
--- a thread that has been stopped goes; a call that is not ready, or would find no room in the journal, is
--- to be asked again
+-- without a process there is nobody to answer; a call that is not ready, or else finds no room in the
+-- journal, is to be asked again
 abbrev pub begun_in : Option Process → Calling → KernelState → Begun
 begun_in None c kernel = Gone
 begun_in (Some p) c kernel =
