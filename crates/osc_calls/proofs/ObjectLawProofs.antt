@@ -19,7 +19,7 @@ use Rattle.osc_space.specs.Header.{Found, death_reasons, object_reasons}
 use Rattle.osc_space.specs.Malloc.{malloc_plan, malloc_reasons, malloc_in}
 use Rattle.osc_space.specs.Free.{free_plan, free_seen, freed, let_wait, flush_where, is_full}
 use Rattle.osc_space.specs.Realloc.{realloc_plan, realloc_seen, realloc_made, realloc_reasons, block_for, place_where, stays}
-use Rattle.osc_space.specs.PlainHeap.{plain_malloc_plan, plain_malloc_in, plain_free_plan, plain_free_of, plain_realloc_plan, plain_realloc_of, plain_resize, plain_move, plain_reasons, place_plain, copy_block, emptied_pages, unmap_emptied, kept_bytes}
+use Rattle.osc_space.specs.PlainHeap.{plain_malloc_plan, plain_malloc_in, plain_free_plan, plain_free_of, plain_realloc_plan, plain_realloc_of, plain_realloc_reasons, plain_resize, plain_move, plain_reasons, place_plain, copy_block, emptied_pages, unmap_emptied, kept_bytes}
 use Rattle.osc_space.specs.Finish.{finished, give_blocks}
 use Rattle.osc_calls.specs.HeapPlans.{malloc_by, free_by, free_of, realloc_by}
 use Rattle.osc_calls.specs.ObjectLaws.{StaysObject, Grown, GrownMarks}
@@ -127,7 +127,7 @@ free-grown : (s : Option Seen) (terms : Terms) (found : Found) (d : Draft) → (
     → Grown d.space.objects (free_seen s terms found d).draft.space.objects
 free-grown None terms found d f = grown-same d.space.objects
 free-grown (Some s) terms found d f =
-    unless-grown (first_reason (object_reasons s found)) d (freed s.number terms (let_wait terms s d)) (λ e.
+    unless-grown (first_reason (object_reasons (Some s) found)) d (freed s.number terms (let_wait terms s d)) (λ e.
     subst (λ (objects : List ObjectFact). Grown d.space.objects objects)
     (sym (flushed (is_full terms (let_wait terms s d).space) terms.harts (let_wait terms s d)))
     (grown-killed d.space.objects s.number terms.call s.fact (f s refl) (alive s.fact.state s.number _ e)))
@@ -170,13 +170,14 @@ plain-moved harts old n bytes block d =
 
 plain-resized : (stay : Bool) (harts : ℕ) (block : Block) (n bytes : ℕ) (d : Draft) → (plain_resize stay harts block n bytes d).draft.space.objects ≡ d.space.objects
 plain-resized true harts block n bytes d = refl
-plain-resized false harts block n bytes d =
-    unless-same (first_reason (plain_reasons (room_of n) d)) d (plain_move harts block n bytes (next_block d.space.heap (room_of n)) d)
-    (plain-moved harts block n bytes (next_block d.space.heap (room_of n)) d)
+plain-resized false harts block n bytes d = plain-moved harts block n bytes (next_block d.space.heap (room_of n)) d
 
 plain-realloced : (b : Option Block) (harts n size : ℕ) (d : Draft) → (plain_realloc_of b harts n size d).draft.space.objects ≡ d.space.objects
 plain-realloced None harts n size d = refl
-plain-realloced (Some block) harts n size d = plain-resized (is_room (room_of n) block.room) harts block n (kept_bytes block size n) d
+plain-realloced (Some block) harts n size d =
+    unless-same (first_reason (plain_realloc_reasons (Some block) n d)) d
+    (plain_resize (is_room (room_of n) block.room) harts block n (kept_bytes block size n) d)
+    (plain-resized (is_room (room_of n) block.room) harts block n (kept_bytes block size n) d)
 
 pub same-grown : (objects later : List ObjectFact) → later ≡ objects → Grown objects later
 same-grown objects later e = subst (Grown objects) (sym e) (grown-same objects)

@@ -21,7 +21,7 @@ use Rattle.osc_space.specs.Header.{Found, death_reasons}
 use Rattle.osc_space.specs.Malloc.{malloc_plan, malloc_reasons, malloc_in, block_need}
 use Rattle.osc_space.specs.Free.{free_plan, free_seen}
 use Rattle.osc_space.specs.Realloc.{realloc_plan, realloc_seen}
-use Rattle.osc_space.specs.PlainHeap.{plain_malloc_plan, plain_malloc_in, plain_free_plan, plain_free_of, plain_realloc_plan, plain_realloc_of, plain_resize, plain_reasons, kept_bytes}
+use Rattle.osc_space.specs.PlainHeap.{plain_malloc_plan, plain_malloc_in, plain_free_plan, plain_free_of, plain_realloc_plan, plain_realloc_of, plain_realloc_reasons, plain_resize, plain_reasons, kept_bytes}
 use Rattle.osc_calls.specs.declared.JoinLook.{JoinLook}
 use Rattle.osc_calls.specs.declared.JoinLook.TheVariants as joined
 use Rattle.osc_calls.specs.declared.WaitLook.{WaitLook}
@@ -96,14 +96,16 @@ realloc-seen-only : (s : Option Seen) (terms : Terms) (size : ℕ) (found : Foun
 realloc-seen-only None terms size found d h = cc
 realloc-seen-only (Some s) terms size found d h = object-only s.fact.state s.number _ _ _ _ _ _ _ d _ refl h
 
-plain-resize-only : (stay : Bool) (harts : ℕ) (block : Block) (n bytes : ℕ) (d : Draft)
-    → Only (plain_resize stay harts block n bytes d).answer (first_reason (if stay then [] else plain_reasons (room_of n) d))
-plain-resize-only true harts block n bytes d h = cc
-plain-resize-only false harts block n bytes d h = unless-only (first_reason (plain_reasons (room_of n) d)) d _ refl h
+resize-given : (stay : Bool) (harts : ℕ) (block : Block) (n bytes : ℕ) (d : Draft) → is_want (plain_resize stay harts block n bytes d).answer ≡ false
+resize-given true harts block n bytes d = refl
+resize-given false harts block n bytes d = refl
 
 plain-realloc-only : (b : Option Block) (harts n size : ℕ) (d : Draft) → Only (plain_realloc_of b harts n size d).answer (first_reason (block_wants b n d))
 plain-realloc-only None harts n size d h = cc
-plain-realloc-only (Some block) harts n size d h = plain-resize-only (is_room (room_of n) block.room) harts block n (kept_bytes block size n) d h
+plain-realloc-only (Some block) harts n size d h =
+    unless-only (first_reason (plain_realloc_reasons (Some block) n d)) d
+    (plain_resize (is_room (room_of n) block.room) harts block n (kept_bytes block size n) d)
+    (resize-given (is_room (room_of n) block.room) harts block n (kept_bytes block size n) d) h
 
 realloc-only : (kind : HeapKind) (terms : Terms) (pointer size : ℕ) (found : Found) (d : Draft)
     → Only (realloc_by kind terms pointer size found d).answer (first_reason (realloc_wants kind pointer size d))
@@ -177,15 +179,11 @@ realloc-seen-each : (s : Option Seen) (terms : Terms) (size : ℕ) (found : Foun
 realloc-seen-each None terms size found d first e h = cc
 realloc-seen-each (Some s) terms size found d first e h = object-each s.fact.state s.number _ _ _ _ _ _ _ d _ first e h
 
-plain-resize-each : (stay : Bool) (harts : ℕ) (block : Block) (n bytes : ℕ) (d : Draft)
-    → Each (plain_resize stay harts block n bytes d).answer (first_reason (if stay then [] else plain_reasons (room_of n) d))
-plain-resize-each true harts block n bytes d first e h = cc
-plain-resize-each false harts block n bytes d first e h = unless-each (first_reason (plain_reasons (room_of n) d)) d _ first e h
-
 plain-realloc-each : (b : Option Block) (harts n size : ℕ) (d : Draft) → Each (plain_realloc_of b harts n size d).answer (first_reason (block_wants b n d))
 plain-realloc-each None harts n size d first e h = cc
 plain-realloc-each (Some block) harts n size d first e h =
-    plain-resize-each (is_room (room_of n) block.room) harts block n (kept_bytes block size n) d first e h
+    unless-each (first_reason (plain_realloc_reasons (Some block) n d)) d
+    (plain_resize (is_room (room_of n) block.room) harts block n (kept_bytes block size n) d) first e h
 
 realloc-each : (kind : HeapKind) (terms : Terms) (pointer size : ℕ) (found : Found) (d : Draft)
     → Each (realloc_by kind terms pointer size found d).answer (first_reason (realloc_wants kind pointer size d))

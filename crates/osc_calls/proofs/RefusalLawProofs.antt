@@ -18,7 +18,7 @@ use Rattle.osc_space.specs.Header.{Found, object_reasons}
 use Rattle.osc_space.specs.Malloc.{malloc_plan, malloc_reasons}
 use Rattle.osc_space.specs.Free.{free_plan, free_seen}
 use Rattle.osc_space.specs.Realloc.{realloc_plan, realloc_seen, realloc_reasons, realloc_made, stays}
-use Rattle.osc_space.specs.PlainHeap.{plain_malloc_plan, plain_free_plan, plain_free_of, plain_realloc_plan, plain_realloc_of, plain_resize, plain_reasons, kept_bytes}
+use Rattle.osc_space.specs.PlainHeap.{plain_malloc_plan, plain_free_plan, plain_free_of, plain_realloc_plan, plain_realloc_of, plain_realloc_reasons, plain_resize, plain_reasons, kept_bytes}
 use Rattle.osc_calls.specs.Kernel.{KernelState, Process, Calling, process_at, is_last}
 use Rattle.osc_calls.specs.Requests.{meant}
 use Rattle.osc_calls.specs.Refusals.{draft_of, refusal_of}
@@ -27,7 +27,7 @@ use Rattle.osc_calls.specs.HeapPlans.{terms_of, malloc_by, free_by, free_of, rea
 use Rattle.osc_calls.specs.WritePlan.{write_by, first_unreadable, write_count}
 use Rattle.osc_calls.specs.ProcessPlans.{done_by, value_left, fork_done, spawn_done, share_done}
 use Rattle.osc_calls.specs.Plan.{plan_meant}
-use Rattle.osc_calls.specs.CallLaws.{is_refused, RefusedCallsKeep}
+use Rattle.osc_calls.specs.CallLaws.{is_denied, RefusedCallsKeep}
 
 -- ---- an answer alone
 -- an element that is put where it stands changes nothing
@@ -43,9 +43,9 @@ outcome-keeps pid p kernel o e f =
     ∙ ap (λ ps. answered o.answer (record kernel { processes = ps })) (set-same kernel.processes pid p e)
 
 abbrev Keeps : Outcome → Draft → Type 0
-Keeps o d = is_refused o.answer ≡ true → o ≡ unchanged o.answer d
+Keeps o d = is_denied o.answer ≡ true → o ≡ unchanged o.answer d
 
-unless-keeps : (r : Option Answer) (d : Draft) (made : Outcome) → is_refused made.answer ≡ false → Keeps (unless r d made) d
+unless-keeps : (r : Option Answer) (d : Draft) (made : Outcome) → is_denied made.answer ≡ false → Keeps (unless r d made) d
 unless-keeps (Some a) d made e h = refl
 unless-keeps None d made e h = cc
 
@@ -56,7 +56,7 @@ malloc-keeps Plain size d h = unless-keeps (first_reason (plain_reasons (room_of
 
 free-seen-keeps : (s : Option Seen) (terms : Terms) (found : Found) (d : Draft) → Keeps (free_seen s terms found d) d
 free-seen-keeps None terms found d h = refl
-free-seen-keeps (Some s) terms found d h = unless-keeps (first_reason (object_reasons s found)) d _ refl h
+free-seen-keeps (Some s) terms found d h = unless-keeps (first_reason (object_reasons (Some s) found)) d _ refl h
 
 plain-free-keeps : (b : Option Block) (harts : ℕ) (d : Draft) → Keeps (plain_free_of b harts d) d
 plain-free-keeps None harts d h = refl
@@ -76,13 +76,16 @@ realloc-seen-keeps None terms size found d h = refl
 realloc-seen-keeps (Some s) terms size found d h =
     unless-keeps (first_reason (realloc_reasons (Some s) size found d)) d (realloc_made (stays s.fact size) terms s size d) refl h
 
-plain-resize-keeps : (stay : Bool) (harts : ℕ) (block : Block) (n bytes : ℕ) (d : Draft) → Keeps (plain_resize stay harts block n bytes d) d
-plain-resize-keeps true harts block n bytes d h = cc
-plain-resize-keeps false harts block n bytes d h = unless-keeps (first_reason (plain_reasons (room_of n) d)) d _ refl h
+resize-given : (stay : Bool) (harts : ℕ) (block : Block) (n bytes : ℕ) (d : Draft) → is_denied (plain_resize stay harts block n bytes d).answer ≡ false
+resize-given true harts block n bytes d = refl
+resize-given false harts block n bytes d = refl
 
 plain-realloc-keeps : (b : Option Block) (harts n size : ℕ) (d : Draft) → Keeps (plain_realloc_of b harts n size d) d
 plain-realloc-keeps None harts n size d h = refl
-plain-realloc-keeps (Some block) harts n size d h = plain-resize-keeps (is_room (room_of n) block.room) harts block n (kept_bytes block size n) d h
+plain-realloc-keeps (Some block) harts n size d h =
+    unless-keeps (first_reason (plain_realloc_reasons (Some block) n d)) d
+    (plain_resize (is_room (room_of n) block.room) harts block n (kept_bytes block size n) d)
+    (resize-given (is_room (room_of n) block.room) harts block n (kept_bytes block size n) d) h
 
 realloc-keeps : (kind : HeapKind) (terms : Terms) (pointer size : ℕ) (found : Found) (d : Draft) → Keeps (realloc_by kind terms pointer size found d) d
 unfolding realloc_plan plain_realloc_plan
@@ -90,9 +93,9 @@ realloc-keeps Oscar terms pointer size found d h = realloc-seen-keeps (object_at
 realloc-keeps Plain terms pointer size found d h = plain-realloc-keeps (block_of_user d.space.heap.held pointer) terms.harts size found.second d h
 
 abbrev Alone : Planned → KernelState → Type 0
-Alone made kernel = is_refused made.answer ≡ true → made ≡ answered made.answer kernel
+Alone made kernel = is_denied made.answer ≡ true → made ≡ answered made.answer kernel
 
-planned-alone : (r : Option Answer) (kernel : KernelState) (made : Planned) → is_refused made.answer ≡ false → Alone (planned_unless r kernel made) kernel
+planned-alone : (r : Option Answer) (kernel : KernelState) (made : Planned) → is_denied made.answer ≡ false → Alone (planned_unless r kernel made) kernel
 planned-alone (Some a) kernel made e h = refl
 planned-alone None kernel made e h = cc
 

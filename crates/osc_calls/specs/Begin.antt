@@ -10,7 +10,7 @@ use Rattle.osc_calls.specs.declared.Begun.TheVariants.{Again, JournalFull, Gone,
 use Rattle.osc_calls.specs.Kernel.{KernelState, Process, Calling, UnderWay, Retrying, Leaving, Waiting, Shown, process_at, is_last, has_journal_room}
 use Rattle.osc_calls.specs.Requests.{calling_of, meant, is_ready}
 use Rattle.osc_calls.specs.Refusals.{refusal_of}
-use Rattle.osc_calls.specs.HeapPlans.{free_need, realloc_need}
+use Rattle.osc_calls.specs.HeapPlans.{free_step, realloc_step}
 use Rattle.osc_calls.specs.Plan.{plan}
 
 -- the kernel once a hart has taken it, what it answers, and what that shows
@@ -23,25 +23,25 @@ pub record Began : Type 0 where
 abbrev pub boxes_where : Bool → Begun
 boxes_where held = if held then Boxes else Planned
 
-abbrev pub need_of : Calling → Process → KernelState → Call → Begun
-need_of c p kernel (calls.Exit status) = Boxes
-need_of c p kernel (calls.Write buf len) = Boxes
-need_of c p kernel (calls.End fault) = Boxes
-need_of c p kernel (calls.Done value) = boxes_where (is_last kernel.records c.pid)
-need_of c p kernel calls.Fork = boxes_where (is_none (refusal_of calls.Fork p kernel))
-need_of c p kernel (calls.Share count) = boxes_where (is_none (refusal_of (calls.Share count) p kernel))
-need_of c p kernel (calls.Free pointer) = free_need kernel.config.heap p.space pointer
-need_of c p kernel (calls.Realloc pointer size) = realloc_need kernel.config.heap p.space pointer
-need_of c p kernel _ = Planned
+abbrev pub first_step : Calling → Process → KernelState → Call → Begun
+first_step c p kernel (calls.Exit status) = Boxes
+first_step c p kernel (calls.Write buf len) = Boxes
+first_step c p kernel (calls.End fault) = Boxes
+first_step c p kernel (calls.Done value) = boxes_where (is_last kernel.records c.pid)
+first_step c p kernel calls.Fork = boxes_where (is_none (refusal_of calls.Fork p kernel))
+first_step c p kernel (calls.Share count) = boxes_where (is_none (refusal_of (calls.Share count) p kernel))
+first_step c p kernel (calls.Free pointer) = free_step kernel.config.heap p.space pointer
+first_step c p kernel (calls.Realloc pointer size) = realloc_step kernel.config.heap p.space pointer
+first_step c p kernel _ = Planned
 
--- a thread that has been stopped goes; a call that is not ready, or would find no room in the journal, is
--- to be asked again
+-- without a process there is nobody to answer; a call that is not ready, or else finds no room in the
+-- journal, is to be asked again
 abbrev pub begun_in : Option Process → Calling → KernelState → Begun
 begun_in None c kernel = Gone
 begun_in (Some p) c kernel =
     if not (is_ready kernel c.pid c.call) then Again
     else if not (has_journal_room kernel) then JournalFull
-    else need_of c p kernel (meant c.call)
+    else first_step c p kernel (meant c.call)
 
 -- ---- the answers
 abbrev pub stands : Begun → Calling → UnderWay

@@ -66,18 +66,18 @@ is_heap_fault answer.NotAnObject = true
 is_heap_fault (answer.HeaderDamaged kept found) = true
 is_heap_fault _ = false
 
-abbrev pub is_refused : Answer → Bool
-is_refused (answer.DoubleFree object call) = true
-is_refused answer.NotAnObject = true
-is_refused (answer.HeaderDamaged kept found) = true
-is_refused (answer.BadBuffer address) = true
-is_refused given = is_want given
+abbrev pub is_denied : Answer → Bool
+is_denied (answer.DoubleFree object call) = true
+is_denied answer.NotAnObject = true
+is_denied (answer.HeaderDamaged kept found) = true
+is_denied (answer.BadBuffer address) = true
+is_denied given = is_want given
 
 -- the plan of a refused call changes nothing and gives nothing back; the call is then entered in the journal
 abbrev pub RefusedCallsKeep : Type 0
 RefusedCallsKeep =
     (found : Found) (c : Calling) (p : Process) (kernel : KernelState)
-    → process_at kernel c.pid ≡ Some p → is_refused (plan_of found c p kernel).answer ≡ true
+    → process_at kernel c.pid ≡ Some p → is_denied (plan_of found c p kernel).answer ≡ true
     → plan_of found c p kernel ≡ answered (plan_of found c p kernel).answer kernel
 
 -- a call is refused exactly for the first reason that holds of it, unless what it gives back is at fault

@@ -133,10 +133,10 @@ abbrev pub one_page_opened : ℕ → KernelState
 one_page_opened levels =
     open_pages (open_page 16 (record { 0 = 10 }) ∷ []) (record (small 1) { frames = 24; levels = levels })
 
-abbrev pub word_in : Option Process → ℕ → ℕ → ℕ
-word_in None frame index = 0
-word_in (Some p) frame index = open_word one_page p.space.tables frame index
+abbrev pub opened_word : Option Process → ℕ → ℕ → ℕ
+opened_word None frame index = 0
+opened_word (Some p) frame index = open_word one_page p.space.tables frame index
 
 -- what stands at this place of memory at the start
 abbrev pub word_opened : ℕ → ℕ → ℕ
-word_opened frame index = word_in (process_at (one_page_opened 3) 0) frame index
+word_opened frame index = opened_word (process_at (one_page_opened 3) 0) frame index

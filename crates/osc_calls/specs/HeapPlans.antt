@@ -22,23 +22,23 @@ use Rattle.osc_calls.specs.Kernel.{KernelState}
 
 -- ---- the header
 -- only a live object has a header
-abbrev pub header_need : HeaderLook → Begun
-header_need (Words first second) = Header first second
-header_need _ = Planned
+abbrev pub header_step : HeaderLook → Begun
+header_step (Words first second) = Header first second
+header_step _ = Planned
 
 -- the header of a held block
-abbrev pub block_need : List HeapPage → Option Block → Begun
-block_need pages None = Planned
-block_need pages (Some block) = Header (block_word pages block 0) (block_word pages block 8)
+abbrev pub block_step : List HeapPage → Option Block → Begun
+block_step pages None = Planned
+block_step pages (Some block) = Header (block_word pages block 0) (block_word pages block 8)
 
 -- on the plain heap a free reads no header
-abbrev pub free_need : HeapKind → Space → ℕ → Begun
-free_need Oscar space pointer = header_need (header_at space pointer)
-free_need Plain space pointer = Planned
+abbrev pub free_step : HeapKind → Space → ℕ → Begun
+free_step Oscar space pointer = header_step (header_at space pointer)
+free_step Plain space pointer = Planned
 
-abbrev pub realloc_need : HeapKind → Space → ℕ → Begun
-realloc_need Oscar space pointer = header_need (header_at space pointer)
-realloc_need Plain space pointer = block_need space.heap.pages (block_of_user space.heap.held pointer)
+abbrev pub realloc_step : HeapKind → Space → ℕ → Begun
+realloc_step Oscar space pointer = header_step (header_at space pointer)
+realloc_step Plain space pointer = block_step space.heap.pages (block_of_user space.heap.held pointer)
 
 -- ---- the plans
 -- the call's place is at the journal's end

@@ -12,13 +12,13 @@ use Rattle.osc_calls.specs.Labels.{out_shows}
 abbrev pub newest : List Process → Option Process
 newest processes = slice_get processes (length processes - 1)
 
-abbrev pub entry_in : Option Process → ℕ → ℕ → ℕ
-entry_in None frame index = 0
-entry_in (Some child) frame index = kept_word child.space.tables frame index
+abbrev pub child_entry : Option Process → ℕ → ℕ → ℕ
+child_entry None frame index = 0
+child_entry (Some child) frame index = kept_word child.space.tables frame index
 
 -- what a copied table's frame gets at an index: the child's own entry
 abbrev pub entries : KernelState → ℕ → ℕ → ℕ
-entries kernel frame index = entry_in (newest kernel.processes) frame index
+entries kernel frame index = child_entry (newest kernel.processes) frame index
 
 abbrev pub entry_by : KernelState → ℕ → Option Job → ℕ
 entry_by kernel index (Some (CopyTable from to)) = entries kernel to index

@@ -19,6 +19,7 @@ pub mod Finish
 pub mod Open
 pub mod MoveLaws
 pub mod CallLaws
+pub mod ReasonLaws
 pub mod ObjectLaws
 pub mod LabelLaws
 pub mod Examples

@@ -44,24 +44,24 @@ abbrev pub plan_of : Found → Calling → Process → KernelState → Planned
 plan_of found c p kernel = plan_meant found c p kernel (meant c.call)
 
 -- ---- the commit
-abbrev pub entry_of : Calling → Answer → Entry
-entry_of c answer = record { pid = c.pid; hart = c.hart; call = c.call; answer = answer }
+abbrev pub journal_entry : Calling → Answer → Entry
+journal_entry c answer = record { pid = c.pid; hart = c.hart; call = c.call; answer = answer }
 
 -- the call is entered in the journal
 abbrev pub committed : Calling → Planned → KernelState
 committed c made = record (made.kernel) {
-  journal = made.kernel.journal ++ entry_of c made.answer ∷ [];
+  journal = made.kernel.journal ++ journal_entry c made.answer ∷ [];
   under_way = Returning (record { calling = c; answer = made.answer; effect = made.effect; closing = made.closing });
   peak = max made.kernel.peak (in_use made.kernel.free);
 }
 
-abbrev pub commits : Calling → Planned → Shown
-commits c made =
+abbrev pub commit_shown : Calling → Planned → Shown
+commit_shown c made =
     record { kernel = committed c made; shows = plan_shows c (length made.kernel.journal) made.answer made.effect }
 
 abbrev pub plan_by : Found → Calling → Option Process → KernelState → Shown
 plan_by found c None kernel = record { kernel = kernel; shows = [] }
-plan_by found c (Some p) kernel = commits c (plan_of found c p kernel)
+plan_by found c (Some p) kernel = commit_shown c (plan_of found c p kernel)
 
 abbrev pub plan_waiting : Found → UnderWay → KernelState → Shown
 plan_waiting found (Waiting c) kernel = plan_by found c (process_at kernel c.pid) kernel

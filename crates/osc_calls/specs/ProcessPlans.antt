@@ -22,16 +22,16 @@ use Rattle.osc_calls.specs.Planned.{Planned, answered}
 
 -- ---- the end of a process
 -- a hart that runs the process is stopped
-abbrev pub stopped : ℕ → HartRecord → HartRecord
-stopped pid kept = if runs pid kept then Stopped pid else kept
+abbrev pub record_stopped : ℕ → HartRecord → HartRecord
+record_stopped pid kept = if runs pid kept then Stopped pid else kept
 
 -- the calling hart is idle, and the process's other harts are stopped
 abbrev pub records_ended : ℕ → ℕ → List HartRecord → List HartRecord
-records_ended hart pid records = slice_set (map (stopped pid) records) hart Idle
+records_ended hart pid records = slice_set (map (record_stopped pid) records) hart Idle
 
 -- what the process has is given back when the call returns
-abbrev pub ends : Calling → ℕ → KernelState → Planned
-ends c status kernel = record {
+abbrev pub process_ends : Calling → ℕ → KernelState → Planned
+process_ends c status kernel = record {
   kernel = record kernel { records = records_ended c.hart c.pid kernel.records };
   answer = Ended;
   effect = Ends status;
@@ -39,12 +39,12 @@ ends c status kernel = record {
 }
 
 abbrev pub exit_plan : Calling → ℕ → KernelState → Planned
-exit_plan c status kernel = ends c (status % 64) kernel
+exit_plan c status kernel = process_ends c (status % 64) kernel
 
 -- a fault is reported
 abbrev pub end_plan : Calling → Fault → Process → KernelState → Planned
 end_plan c fault p kernel =
-    ends c fault_status (record kernel { reports = kernel.reports ++ report_of c.pid c.hart p.space.objects fault ∷ [] })
+    process_ends c fault_status (record kernel { reports = kernel.reports ++ report_of c.pid c.hart p.space.objects fault ∷ [] })
 
 -- ---- the end of a thread
 -- a spawned thread leaves its value; that of a process's first is dropped
@@ -54,7 +54,7 @@ value_left (Some number) value kernel = record kernel { threads = thread_done nu
 
 -- its hart is idle, and where it is the last of its process, the process ends with the status 0
 abbrev pub done_by : Bool → Calling → KernelState → Planned
-done_by true c kernel = ends c 0 kernel
+done_by true c kernel = process_ends c 0 kernel
 done_by false c kernel = answered Ended (with_record c.hart Idle kernel)
 
 abbrev pub done_plan : Calling → ℕ → KernelState → Planned
@@ -85,13 +85,13 @@ abbrev pub new_hart : KernelState → ℕ
 new_hart kernel = unwrap_or (idle_hart kernel.records) 0
 
 -- a child of a process: it inherits what its parent has granted
-abbrev pub child_of : ℕ → Space → Process
-child_of pid child = record { space = child; inherited = mark child.objects; parent = Some pid; status = None }
+abbrev pub child_process : ℕ → Space → Process
+child_process pid child = record { space = child; inherited = mark child.objects; parent = Some pid; status = None }
 
 abbrev pub fork_made : ℕ → ℕ → Calling → Forked → KernelState → Planned
 fork_made hart child c f kernel = record {
   kernel = record (with_record hart (Runs child None) kernel) {
-    processes = kernel.processes ++ child_of c.pid f.child ∷ [];
+    processes = kernel.processes ++ child_process c.pid f.child ∷ [];
     regions = hold_regions f.child.tables kernel.regions;
     free = f.free;
     jobs = kernel.jobs ++ f.jobs;

@@ -1,6 +1,6 @@
 -- Why a call is refused: one table of reasons, of which the first that holds is answered. Begin, plan and
 -- whoever looks at a run use the same table. This project's own.
-use Rattle.std.specs.Prelude.{ℕ, nat_le, not, List, [], ◌∷◌, length, Option, Some, None, is_none, if◌then◌else◌}
+use Rattle.std.specs.Prelude.{ℕ, nat_le, not, List, [], ◌∷◌, length, Option, Some, None, is_none}
 use Rattle.osc_word.specs.declared.settings.HeapKind.{HeapKind}
 use Rattle.osc_word.specs.declared.settings.HeapKind.TheVariants.{Oscar, Plain}
 use Rattle.osc_word.specs.declared.calls.Call.{Call}
@@ -9,13 +9,12 @@ use Rattle.osc_word.specs.declared.calls.Answer.{Answer}
 use Rattle.osc_word.specs.declared.calls.Answer.TheVariants.{NoHart, NoProcess, NoThread}
 use Rattle.osc_class.specs.Rooms.{room_of, shadow_pages}
 use Rattle.osc_slot.specs.declared.Block.{Block}
-use Rattle.osc_slot.specs.Slots.{is_room}
 use Rattle.osc_slot.specs.Heap.{block_of_user}
 use Rattle.osc_space.specs.Objects.{Seen, object_at}
 use Rattle.osc_space.specs.Space.{Draft, Reason, reason, first_reason}
 use Rattle.osc_space.specs.Malloc.{memory_reasons, malloc_reasons}
 use Rattle.osc_space.specs.Realloc.{stays, frames_for}
-use Rattle.osc_space.specs.PlainHeap.{plain_reasons}
+use Rattle.osc_space.specs.PlainHeap.{plain_reasons, plain_realloc_reasons}
 use Rattle.osc_space.specs.Fork.{fork_reasons}
 use Rattle.osc_space.specs.Share.{Sharing, share_reasons}
 use Rattle.osc_calls.specs.Threads.{has_room}
@@ -52,7 +51,7 @@ object_wants (Some seen) size d =
 
 abbrev pub block_wants : Option Block → ℕ → Draft → List Reason
 block_wants None size d = []
-block_wants (Some block) size d = if is_room (room_of size) block.room then [] else plain_reasons (room_of size) d
+block_wants (Some block) size d = plain_realloc_reasons (Some block) size d
 
 abbrev pub realloc_wants : HeapKind → ℕ → ℕ → Draft → List Reason
 realloc_wants Oscar pointer size d = object_wants (object_at d.space.objects pointer) size d

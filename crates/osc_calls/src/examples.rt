@@ -15,6 +15,8 @@ ghost use Rattle.osc_word.specs.declared.steps.Label.TheVariants as labels;
 ghost use Rattle.osc_calls.specs.declared.Begun.TheVariants as begun;
 ghost use Rattle.osc_calls.specs.declared.BoxChange.TheVariants.{Keep, Clear, Put};
 ghost use Rattle.osc_calls.specs.declared.HartRecord.TheVariants as records;
+ghost use Rattle.osc_word.specs.declared.steps.Choice.TheVariants as choices;
+ghost use Rattle.osc_calls.specs.Choices.{choice};
 ghost use Rattle.osc_calls.specs.Kernel.{ended, granted, is_over, in_use};
 ghost use Rattle.osc_calls.specs.JobDone.{job_done};
 ghost use Rattle.osc_calls.specs.Finish.{finish};
@@ -76,6 +78,26 @@ pub fn refusals_on_one_hart()
     ensures entries { answers_of (after (asks 0 Fork ∷ asks 0 (Spawn 0x10000 0 0) ∷ asks 0 (Share 0) ∷ asks 0 (Share 100000)
         ∷ asks 0 (Join 9) ∷ asks 0 (Wait 9) ∷ []) (first 1))
         ≡ answers.NoHart ∷ answers.NoHart ∷ answers.Empty ∷ answers.NoFrames ∷ answers.Unknown ∷ answers.Unknown ∷ [] }
+{}
+
+/// The second process is the last, and then the reasons come in their order.
+pub fn third_process_is_refused()
+    ensures full { answers_of (after (asks 0 Fork ∷ asks 0 Fork ∷ []) (first 3)) ≡ answers.Number 1 ∷ answers.NoProcess ∷ [] }
+    ensures hart { answers_of (after (asks 0 Fork ∷ asks 0 Fork ∷ []) (first 2)) ≡ answers.Number 1 ∷ answers.NoHart ∷ [] }
+    ensures begins { (beginning (asks 0 Fork) (first 1)).begun ≡ begun.Planned }
+    ensures shares { (beginning (asks 0 (Share 100000)) (first 1)).begun ≡ begun.Planned }
+    ensures takes { (beginning (asks 0 (Share 1)) (first 1)).begun ≡ begun.Boxes }
+{}
+
+/// What a call leaves open: a hart that starts a thread, memory that was given or refused, or nothing.
+pub fn what_is_left_open()
+    ensures started { choice (planned (asks 0 (Spawn 0x10000 0 0)) (first 2)) ≡ choices.Started 1 }
+    ensures alone { choice (planned (asks 0 Fork) (first 1)) ≡ choices.Refused }
+    ensures malloc { choice (planned (asks 0 (Malloc 24)) (first 1)) ≡ choices.Given }
+    ensures share { choice (planned (asks 0 (Share 1)) (first 1)) ≡ choices.Given }
+    ensures empty { choice (planned (asks 0 (Share 0)) (first 1)) ≡ choices.Refused }
+    ensures damaged { choice (planned (finds 0 (Realloc 0x1000000010 30) 0x2000010010 9) (after (asks 0 (Malloc 24) ∷ []) (first 1)))
+        ≡ choices.Plain }
 {}
 
 /// With three shadow pages the fourth malloc is refused.
@@ -176,6 +198,13 @@ pub fn frees_in_pairs()
     ensures report { reports (after (asks 0 (Malloc 24) ∷ finds 0 (Free 0x1000000010) 0x2000010010 24
         ∷ asks 0 (End (faults.Access 13 0x1000000018)) ∷ []) paired_first)
         ≡ record { pid = 0; hart = 0; fault = faults.Access 13 0x1000000018; place = places.Dead 0 (pos 8) 1 } ∷ [] }
+{}
+
+/// A child waits with its parent's object, and frees its own copy.
+pub fn child_frees_in_pairs()
+    ensures { (answer_to (finds 1 (Free 0x1000001040) 0x2000010040 24) (after (asks 0 (Malloc 24) ∷ asks 0 (Malloc 24)
+        ∷ finds 0 (Free 0x1000000010) 0x2000010010 24 ∷ asks 0 Fork ∷ []) paired_first)).shows
+        ≡ labels.Freed 1 0 2 ∷ labels.Freed 1 1 4 ∷ [] }
 {}
 
 /// On both heaps a free of 0 does nothing, and a realloc of 0 is a malloc.

@@ -6,6 +6,7 @@ ghost use Rattle.osc_calls.specs.declared.Place.TheVariants as places;
 ghost use Rattle.osc_calls.specs.Lines.{report_line};
 ghost use Rattle.osc_calls.specs.MoveLaws.{MovesDoJob};
 ghost use Rattle.osc_calls.specs.CallLaws.{StoppedAreGone, RetriesKeep, RefusedCallsKeep, RefusedByFirstReason, RefusedBegin, MallocsMoveNothing};
+ghost use Rattle.osc_calls.specs.ReasonLaws.{RefusedForCause};
 ghost use Rattle.osc_calls.specs.ObjectLaws.{GrownMarks, ObjectsGrow};
 ghost use Rattle.osc_calls.specs.LabelLaws.{LabelsCounted, ReturnsFree};
 
@@ -57,6 +58,12 @@ pub fn refused_calls_keep()
 pub fn refused_by_first_reason()
     ensures plans { RefusedByFirstReason }
     ensures begins { RefusedBegin }
+{}
+
+/// Each refusal of a fork, a spawn or a share has its cause, and the first of them is answered.
+#[tactic(auto, using(crate::proofs::CauseLawProofs::refused_for_cause))]
+pub fn refused_for_cause()
+    ensures { RefusedForCause }
 {}
 
 /// A malloc moves nothing.

@@ -1,5 +1,5 @@
 -- The examples agree.
-use Rattle.std.proofs.Common.{ℕ, zero, suc, ◌+◌, ◌≡◌, ◌<◌, ◌≤◌, ◌/◌, true, false, Some, List, [], ◌∷◌, slice_get, arith, refl, subst, sym, ap, ◌∙◌}
+use Rattle.std.proofs.Common.{ℕ, zero, suc, ◌+◌, ◌≡◌, ◌<◌, ◌≤◌, ◌/◌, true, false, Some, [], ◌∷◌, slice_get, arith, refl, subst, sym, ◌∙◌}
 use Rattle.std.proofs.lemmas.Bool.Decides.{nat_tests}
 use Rattle.std.specs.Prelude.{is_some, option_map}
 use Rattle.osc_class.specs.Rooms.{room_of, shadow_pages}
@@ -14,7 +14,7 @@ use Rattle.osc_space.specs.declared.ObjectFact.{ObjectFact}
 use Rattle.osc_space.specs.Objects.{granted_at, killed, has_page, is_live}
 use Rattle.osc_space.specs.Header.{block_of}
 use Rattle.osc_space.specs.Share.{holders, no_regions}
-use Rattle.osc_space.specs.Agree.{IsLive, IsBlockOf, ObjectsAgree}
+use Rattle.osc_space.specs.Agree.{IsLive, ObjectsAgree}
 use Rattle.osc_space.specs.AgreeExamples.{one_space, freed_space, OneAgrees, FreedAgrees, NoneAgrees}
 
 abbrev the_object : ObjectFact

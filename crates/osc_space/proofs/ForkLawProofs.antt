@@ -1,5 +1,5 @@
 -- The law of copies: the k-th private frame stands for the k-th free one.
-use Rattle.std.proofs.Common.{ℕ, zero, suc, ◌+◌, ◌≡◌, ◌<◌, ◌≤◌, ◌==◌, ◌&&◌, ◌||◌, Bool, true, false, cond, Option, Some, None, List, [], ◌∷◌, ◌++◌, length, map, filter, slice_get, nat_lt, arith, refl, ap, sym, subst, ◌∙◌}
+use Rattle.std.proofs.Common.{ℕ, zero, suc, ◌+◌, ◌≡◌, ◌<◌, ◌≤◌, ◌==◌, ◌&&◌, ◌||◌, Bool, true, false, cond, Some, None, List, [], ◌∷◌, ◌++◌, length, map, filter, slice_get, nat_lt, arith, refl, ap, sym, subst, ◌∙◌}
 use Rattle.std.specs.Prelude.{find, zip, is_some, slice_index_or, slice_set, count_by}
 use Rattle.std.specs.List.{list_any, range_with_len}
 use Rattle.std.specs.Option.{option_map_or}
@@ -11,12 +11,11 @@ use Rattle.osc_word.specs.AddressMap.{is_within}
 use Rattle.osc_slot.specs.declared.HeapPage.{HeapPage}
 use Rattle.osc_slot.specs.Heap.{free_count, frame_of, frame_of_found}
 use Rattle.osc_slot.proofs.Backing.{get-set}
-use Rattle.osc_paging.specs.KeptTables.{KeptTables}
 use Rattle.osc_space.specs.Space.{Space, reason, first_reason}
 use Rattle.osc_word.specs.declared.calls.Answer.TheVariants.{NoFrames}
 use Rattle.osc_space.specs.Agree.{AreApart}
-use Rattle.osc_space.specs.Fork.{Forked, table_frame_of, heap_frame_of, image_frames, own_frames, is_private, frames_where, private_frames, free_numbers, set_free, copies, name_in, fork_reasons, fork_plan}
-use Rattle.osc_space.specs.ForkLaws.{StandsForNew, CopiesApart, ForksApart}
+use Rattle.osc_space.specs.Fork.{table_frame_of, heap_frame_of, image_frames, is_private, private_frames, free_numbers, set_free, name_in, fork_reasons, fork_plan}
+use Rattle.osc_space.specs.ForkLaws.{ForksApart}
 use Rattle.osc_space.proofs.PlanLawProofs.{range_at}
 
 abbrev is_member : ℕ → List ℕ → Bool

@@ -1,6 +1,6 @@
 -- The laws of plans: what was made is made only where no reason holds.
 use Rattle.std.proofs.Common.{ℕ, zero, suc, ◌+◌, ◌/◌, ◌≡◌, ◌≢◌, ◌<◌, ◌≤◌, ◌==◌, ◌&&◌, ◌||◌, Bool, true, false, cond, Option, Some, None, List, [], ◌∷◌, ◌++◌, length, map, filter, position, slice_get, arith, refl, ap, subst, sym, ◌∙◌}
-use Rattle.std.specs.Prelude.{is_some, option_map, option_and_then, filter_map}
+use Rattle.std.specs.Prelude.{is_some, option_map, option_and_then}
 use Rattle.std.specs.List.{list_any, range_with_len, cons_option}
 use Rattle.std.proofs.lemmas.Bool.Decides.{nat_tests}
 use Rattle.std.proofs.lemmas.List.{length-append, map-append}
@@ -17,14 +17,14 @@ use Rattle.osc_paging.specs.KeptTables.{frame_of}
 use Rattle.osc_paging.specs.TableChanges.{Changed, unmap_page, reclaim, leaf_cleared, unlinked}
 use Rattle.osc_paging.proofs.TableLists.{frame_of-without_table}
 use Rattle.osc_space.specs.declared.ObjectFact.{ObjectFact}
-use Rattle.osc_space.specs.Objects.{Seen, seen_as, object_seen, object_at, mark, fact, facts, killed, kill, grant, next_page, next_object, leaf_dead, is_in_leaf}
-use Rattle.osc_space.specs.Space.{Space, Draft, Terms, Outcome, Closing, Keeps, GivesBack, first_reason, unless}
+use Rattle.osc_space.specs.Objects.{Seen, seen_as, object_at, mark, fact, facts, kill, grant, next_object, leaf_dead, is_in_leaf}
+use Rattle.osc_space.specs.Space.{Space, Draft, Terms, Outcome, GivesBack, first_reason, unless}
 use Rattle.osc_space.specs.Header.{Found, object_reasons, block_of}
-use Rattle.osc_space.specs.Malloc.{memory_reasons, malloc_reasons, malloc_in, malloc_plan, block_need, next_user}
-use Rattle.osc_space.specs.Free.{clear_jobs, unmap_all, reclaim_all, linked_leaves, dead_leaves, flush, waiting_facts, waiting_blocks, let_wait, is_full, flush_where, closing_where, freed, free_seen, free_plan}
-use Rattle.osc_space.specs.Realloc.{stays, frames_for, block_for, place_where, left_block, realloc_made, realloc_reasons, realloc_seen, realloc_plan}
+use Rattle.osc_space.specs.Malloc.{malloc_reasons, malloc_in, malloc_plan, block_need, next_user}
+use Rattle.osc_space.specs.Free.{unmap_all, reclaim_all, linked_leaves, dead_leaves, waiting_facts, waiting_blocks, let_wait, is_full, flush_where, closing_where, freed, free_seen, free_plan}
+use Rattle.osc_space.specs.Realloc.{stays, block_for, place_where, left_block, realloc_made, realloc_reasons, realloc_seen, realloc_plan}
 use Rattle.osc_space.specs.Finish.{finished}
-use Rattle.osc_space.specs.PlanLaws.{MarkNeverFalls, ClearsEachBox, ClearsLast, FreeWaits, FreesWait, BatchesOfOneFlush, ReallocsFlush, FlushesEnd, is_given_up, table_after, LeavesStand, FlushGivesUp, IsFresh, AddressesAreFresh}
+use Rattle.osc_space.specs.PlanLaws.{MarkNeverFalls, ClearsEachBox, ClearsLast, FreeWaits, FreesWait, BatchesOfOneFlush, ReallocsFlush, FlushesEnd, is_given_up, table_after, FlushGivesUp, IsFresh, AddressesAreFresh}
 use Rattle.osc_space.proofs.RefusalLawProofs.{is_made, memory_refuses, object_refuses, realloc_refuses}
 use Rattle.osc_space.proofs.ObjectLawProofs.{mark-kill, mark-grant}
 
@@ -159,7 +159,7 @@ freed_waits terms s d e =
     let full = is_full terms w.space in
     let unmapped : w.free ≡ d.free = unmap_free (range_with_len s.fact.first s.fact.pages) _ in
     let blocks : waiting_blocks w.space ≡ waiting_blocks d.space ++ block_of s.fact ∷ [] =
-        kill_blocks d.space.objects s.number terms.call (d.space.waiting ++ s.number ∷ []) ∙ push_blocks d.space.objects d.space.waiting s e in
+    kill_blocks d.space.objects s.number terms.call (d.space.waiting ++ s.number ∷ []) ∙ push_blocks d.space.objects d.space.waiting s e in
     record {
       heap = flush_heap full terms.harts w;
       frames = flush_free full terms.harts w ∙ unmapped;
@@ -295,8 +295,8 @@ pub flush_gives_up : (harts : ℕ) (gone : List ObjectFact) (d : Draft) → Flus
 flush_gives_up harts gone d =
     let c : Changed = record { tables = d.space.tables; free = d.free; jobs = d.jobs } in
     let named : (leaf : ℕ) → is_among leaf (dead_leaves gone d.space) ≡ is_given_up gone d leaf =
-        λ leaf. among_filter (λ leaf. leaf_dead d.space.objects leaf && list_any (is_in_leaf leaf) gone) (linked_leaves d.space.tables) leaf
-            ∙ ap (λ b. b && (leaf_dead d.space.objects leaf && list_any (is_in_leaf leaf) gone)) (linked_among d.space.tables.tables leaf) in
+    λ leaf. among_filter (λ leaf. leaf_dead d.space.objects leaf && list_any (is_in_leaf leaf) gone) (linked_leaves d.space.tables) leaf
+    ∙ ap (λ b. b && (leaf_dead d.space.objects leaf && list_any (is_in_leaf leaf) gone)) (linked_among d.space.tables.tables leaf) in
     record {
       named = named;
       leaves = λ h leaf. reclaim_leaves (dead_leaves gone d.space) c leaf h ∙ ap (λ b. table_after b (frame_of d.space.tables.tables 0 leaf)) (named leaf);

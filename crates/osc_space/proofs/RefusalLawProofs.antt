@@ -1,5 +1,5 @@
 -- The laws of refusals, by cases on the first reason that holds.
-use Rattle.std.proofs.Common.{ℕ, ◌+◌, ◌≡◌, ◌==◌, Bool, true, false, cond, not, nat_lt, Option, Some, None, List, [], ◌∷◌, ◌++◌, length, arith, refl, ap, ◌∙◌}
+use Rattle.std.proofs.Common.{ℕ, ◌+◌, ◌≡◌, ◌==◌, Bool, true, false, cond, not, nat_lt, Option, Some, None, List, [], ◌∷◌, ◌++◌, arith, refl, ap, ◌∙◌}
 use Rattle.std.specs.Prelude.{find, option_map}
 use Rattle.std.proofs.lemmas.Bool.Decides.{nat_tests}
 use Rattle.osc_word.specs.declared.calls.Answer.{Answer}
@@ -18,9 +18,9 @@ use Rattle.osc_space.specs.Malloc.{memory_reasons, malloc_reasons, malloc_in, ma
 use Rattle.osc_space.specs.Free.{let_wait, freed, free_seen, free_plan}
 use Rattle.osc_space.specs.Realloc.{stays, frames_for, realloc_made, realloc_reasons, realloc_seen, realloc_plan}
 use Rattle.osc_space.specs.PlainHeap.{block_reasons, plain_reasons, plain_malloc_in, plain_malloc_plan, plain_free_of, plain_free_plan, kept_bytes, plain_resize, plain_realloc_reasons, plain_realloc_of, plain_realloc_plan}
-use Rattle.osc_space.specs.Fork.{private_frames, fork_reasons}
+use Rattle.osc_space.specs.Fork.{fork_reasons}
 use Rattle.osc_space.specs.Share.{Sharing, next_shared_page, share_reasons}
-use Rattle.osc_space.specs.RefusalLaws.{is_refusal, GoesByReasons, PlansGoByReasons, RefusalsKeep, RefusedForWant, ObjectRefused, ReallocRefused, plain_want, PlainRefused, ForkRefused, ShareRefused}
+use Rattle.osc_space.specs.RefusalLaws.{is_refusal, GoesByReasons, PlansGoByReasons, RefusalsKeep, RefusedForWant, ObjectRefused, ReallocRefused, PlainRefused, ForkRefused, ShareRefused}
 
 -- ---- plans
 goes : (reasons : List Reason) (d : Draft) (made : Outcome) → is_refusal made.answer ≡ false → GoesByReasons reasons d (unless (first_reason reasons) d made)

@@ -10,14 +10,14 @@ use Rattle.osc_image.specs.Frames.{stack_pages}
 use Rattle.osc_space.specs.declared.ObjectFact.{ObjectFact}
 use Rattle.osc_space.specs.declared.ObjectState.TheVariants.{Dead}
 use Rattle.osc_space.specs.Objects.{next_object, fact, granted_at}
-use Rattle.osc_space.specs.Space.{Draft, Terms, Closing, Outcome, Reason, first_reason, unchanged}
+use Rattle.osc_space.specs.Space.{Draft, Terms, Closing, Outcome, first_reason, unchanged}
 use Rattle.osc_space.specs.Malloc.{malloc_plan}
 use Rattle.osc_space.specs.Realloc.{realloc_plan}
 use Rattle.osc_space.specs.Finish.{finished}
 use Rattle.osc_space.specs.Header.{Found}
 use Rattle.osc_space.specs.Free.{free_plan}
 use Rattle.osc_space.specs.PlainHeap.{plain_malloc_plan, plain_free_plan, plain_realloc_plan}
-use Rattle.osc_space.specs.Share.{Sharing, no_regions, share_reasons, share_plan, share_address}
+use Rattle.osc_space.specs.Share.{Sharing, no_regions, share_reasons, share_plan}
 use Rattle.osc_space.specs.Fork.{Forked, fork_reasons, fork_plan}
 
 -- in a machine of so many frames, with so many shadow pages; the topmost table is in frame 0

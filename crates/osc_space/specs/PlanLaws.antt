@@ -1,5 +1,5 @@
 -- The laws of plans: what is given back when, and which addresses are given.
-use Rattle.std.specs.Prelude.{ℕ, suc, ◌+◌, ◌/◌, ◌≡◌, ◌≢◌, ◌<◌, ◌≤◌, ◌==◌, ◌&&◌, Bool, true, false, Some, None, Option, is_some, List, [], ◌∷◌, ◌++◌, length, slice_get, if◌then◌else◌}
+use Rattle.std.specs.Prelude.{ℕ, suc, ◌/◌, ◌≡◌, ◌≢◌, ◌<◌, ◌≤◌, ◌==◌, ◌&&◌, Bool, true, false, Some, None, Option, is_some, List, [], ◌∷◌, ◌++◌, length, slice_get}
 use Rattle.std.specs.List.{list_any}
 use Rattle.osc_word.specs.declared.job_list.Job.{Job}
 use Rattle.osc_word.specs.declared.job_list.Job.TheVariants.{ClearBox}
@@ -8,7 +8,7 @@ use Rattle.osc_slot.specs.declared.Block.{Block}
 use Rattle.osc_paging.specs.KeptTables.{frame_of}
 use Rattle.osc_space.specs.declared.ObjectFact.{ObjectFact}
 use Rattle.osc_space.specs.Objects.{Seen, object_at, mark, next_page, next_object, leaf_dead, is_in_leaf}
-use Rattle.osc_space.specs.Space.{Draft, Terms, Outcome, Closing, Keeps, GivesBack}
+use Rattle.osc_space.specs.Space.{Draft, Terms, Outcome, Keeps, GivesBack}
 use Rattle.osc_space.specs.Header.{Found, block_of}
 use Rattle.osc_space.specs.Malloc.{malloc_plan}
 use Rattle.osc_space.specs.Free.{free_plan, clear_jobs, waiting_blocks, dead_leaves, flush}

@@ -1,5 +1,5 @@
 -- The laws of refusals: a plan is refused exactly for the first of its reasons, which are wants in plain numbers.
-use Rattle.std.specs.Prelude.{ℕ, ◌+◌, ◌≡◌, ◌≢◌, ◌<◌, ◌≤◌, ◌/◌, Bool, true, false, Option, Some, None, List, length}
+use Rattle.std.specs.Prelude.{ℕ, ◌+◌, ◌≡◌, ◌≢◌, ◌<◌, ◌≤◌, ◌/◌, Bool, true, false, Some, None, List, length}
 use Rattle.osc_word.specs.declared.calls.Answer.{Answer}
 use Rattle.osc_word.specs.declared.calls.Answer.TheVariants as answer
 use Rattle.osc_class.specs.Rooms.{room_of, shadow_pages}

@@ -3,6 +3,7 @@
 ghost use Rattle.std.specs.Prelude.{ℕ, ◌≡◌, Bool, List};
 ghost use Rattle.osc_image.specs.Frames.{table_count};
 ghost use Rattle.osc_slot.specs.declared.Block.{Block};
+ghost use Rattle.osc_slot.specs.declared.HeapPage.{HeapPage};
 ghost use Rattle.osc_space.specs.declared.ObjectFact.{ObjectFact};
 ghost use Rattle.osc_space.specs.Objects.{Seen};
 ghost use Rattle.osc_space.specs.Space.{Space, Draft};
@@ -11,7 +12,7 @@ ghost use Rattle.osc_space.specs.Share.{Sharing};
 ghost use Rattle.osc_space.specs.Used.{tables_used};
 ghost use Rattle.osc_space.specs.RefusalLaws.{PlansGoByReasons, RefusalsKeep, RefusedForWant, ObjectRefused, ReallocRefused, PlainRefused, ForkRefused, ShareRefused};
 ghost use Rattle.osc_space.specs.PlanLaws.{MarkNeverFalls, ClearsEachBox, FreesWait, BatchesOfOneFlush, ReallocsFlush, FlushesEnd, FlushGivesUp, AddressesAreFresh};
-ghost use Rattle.osc_space.specs.WordLaws.{StretchesCut, NoPieceCrosses};
+ghost use Rattle.osc_space.specs.WordLaws.{StretchesCut, NoPieceCrosses, BlockJobsStay};
 ghost use Rattle.osc_space.specs.ForkLaws.{ForksApart};
 ghost use Rattle.osc_space.specs.ObjectLaws.{GrantsKeep, PagesAreGrantedOnce, DeadLeavesAreDead};
 
@@ -90,12 +91,13 @@ pub fn addresses_are_fresh()
     ensures { AddressesAreFresh }
 {}
 
-/// The runs of a block's words are cut at its frames: each byte is in one piece, and no job on them
-/// crosses a frame.
+/// The runs of a block's words are cut at its frames: each byte is in one piece, no job on them
+/// crosses a frame, and the jobs on a block write in the frames of its own words alone.
 #[tactic(auto, using(crate::proofs::WordLawProofs::stretches_cut, crate::proofs::WordLawProofs::no_piece_crosses))]
 pub fn no_piece_crosses_a_frame()
     ensures cut { StretchesCut }
     ensures jobs { NoPieceCrosses }
+    ensures frames { (pages : List HeapPage) (block : Block) → BlockJobsStay pages block }
 {}
 
 /// A child shares no private frame with its parent: each stands for a frame of its own that was free
