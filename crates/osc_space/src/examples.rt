@@ -163,7 +163,8 @@ pub fn leaf_dies_with_its_last_page()
 {}
 
 /// An image of one page uses 22 frames, with an object 25, also once 513 pages were granted and the
-/// first leaf table was given up; an image of 100 pages uses 121. With four levels there is one table more.
+/// first leaf table was given up; an image of 100 pages uses 121. With four levels there is one
+/// table more.
 #[tactic(auto, unfolding(osc_image::specs::Frames::tables_below, osc_slot::specs::Least::passing, osc_slot::specs::Slots::block_frames, crate::specs::Used::frames_used))]
 pub fn frames_are_counted()
     ensures image { frames_used 3 (pages_with []) 0 1 64 [] ≡ 22 }
