@@ -1,9 +1,11 @@
 -- The law of copies: the k-th private frame stands for the k-th free one.
 use Rattle.std.proofs.Common.{ℕ, zero, suc, ◌+◌, ◌≡◌, ◌<◌, ◌≤◌, ◌==◌, ◌&&◌, ◌||◌, Bool, true, false, cond, Some, None, List, [], ◌∷◌, ◌++◌, length, map, filter, slice_get, nat_lt, arith, refl, ap, sym, subst, ◌∙◌}
-use Rattle.std.specs.Prelude.{find, zip, is_some, slice_index_or, slice_set, count_by}
+use Rattle.std.specs.Prelude.{Contains, find, zip, is_some, slice_index_or, slice_set, count_by}
 use Rattle.std.specs.List.{list_any, range_with_len}
 use Rattle.std.specs.Option.{option_map_or}
 use Rattle.std.proofs.lemmas.Bool.Decides.{nat_tests}
+use Rattle.std.proofs.lemmas.List.{length-set, length-map}
+use Rattle.std.proofs.lemmas.List.FromFn.{length-range_with_len}
 use Rattle.std.proofs.lemmas.List.Sums.{sum_by-cons}
 use Rattle.std.proofs.lemmas.List.Folds.{list_any-append}
 use Rattle.std.proofs.lemmas.Option.{slice_get-map, slice_get-get_or}
@@ -14,8 +16,9 @@ use Rattle.osc_slot.proofs.Backing.{get-set}
 use Rattle.osc_space.specs.Space.{Space, reason, first_reason}
 use Rattle.osc_word.specs.declared.calls.Answer.TheVariants.{NoFrames}
 use Rattle.osc_space.specs.Agree.{AreApart}
-use Rattle.osc_space.specs.Fork.{table_frame_of, heap_frame_of, image_frames, is_private, private_frames, free_numbers, set_free, name_in, fork_reasons, fork_plan}
-use Rattle.osc_space.specs.ForkLaws.{ForksApart}
+use Rattle.osc_space.specs.Fork.{Forked, table_frame_of, heap_frame_of, image_frames, is_private, private_frames, free_numbers, set_free, copy_job, name_in, fork_reasons, fork_plan}
+use Rattle.osc_space.specs.ForkLaws.{ForksApart, AreCopies, ForksCopyEach}
+use Rattle.osc_paging.specs.KeptTables.{KeptTables}
 use Rattle.osc_space.proofs.PlanLawProofs.{range_at}
 
 abbrev is_member : ℕ → List ℕ → Bool
@@ -166,6 +169,80 @@ enough_free s free h =
         → length (free_numbers free) ≡ free_count free → length (private_frames s (length free)) ≤ length (free_numbers free)
     go true e r k = cc
     go false e r k = grind (arith, nat_tests, e, k)
+
+-- ---- the jobs
+-- each of these pairs is a frame among some, with its name
+abbrev Named : (ℕ → ℕ) → List ℕ → List (ℕ × ℕ) → Type 0
+Named names p [] = Unit {0}
+Named names p (c ∷ cs) = (names c.0 ≡ c.1) × (is_member c.0 p ≡ true) × Named names p cs
+
+past : (x y : ℕ) (p : List ℕ) (all : List (ℕ × ℕ)) (f : ℕ) → is_member x p ≡ false → is_member f p ≡ true → name_in ((x, y) ∷ all) f ≡ name_in all f
+past x y p all f h m = go (x == f) refl
+  where
+    go : (b : Bool) → (x == f) ≡ b → option_map_or (λ (c : ℕ × ℕ). c.1) (cond b (Some (x, y)) (find (λ (c : ℕ × ℕ). c.0 == f) all)) f ≡ name_in all f
+    go true e =
+        let is : x ≡ f = grind (arith, nat_tests, e) in
+        let same : is_member x p ≡ is_member f p = ap (λ k. is_member k p) is in absurd cc
+    go false e = refl
+
+named_past : (x y : ℕ) (p : List ℕ) (all cs : List (ℕ × ℕ)) → is_member x p ≡ false → Named (name_in all) p cs → Named (name_in ((x, y) ∷ all)) (x ∷ p) cs
+named_past x y p all [] h n = tt
+named_past x y p all (c ∷ cs) h n =
+    (past x y p all c.0 h n.1 ∙ n.0, let m = n.1 in grind (arith, nat_tests, m), named_past x y p all cs h n.2)
+
+named_pairs : (p q : List ℕ) → AreApart p → Named (name_in (zip p q)) p (zip p q)
+named_pairs [] q h = tt
+named_pairs (x ∷ p) [] h = tt
+named_pairs (x ∷ p) (y ∷ q) h =
+    let e : (x == x) ≡ true = grind (arith, nat_tests) in
+    (ap (λ b. option_map_or (λ (c : ℕ × ℕ). c.1) (cond b (Some (x, y)) (find (λ (c : ℕ × ℕ). c.0 == x) (zip p q))) x) e,
+    grind (arith, nat_tests),
+    named_past x y p (zip p q) (zip p q) h.0 (named_pairs p q h.1))
+
+only_copies : (s : Space) (count : ℕ) (f : Forked) (names : ℕ → ℕ) (p : List ℕ) (cs : List (ℕ × ℕ)) → ((x : ℕ) → is_member x p ≡ true → (x < count) × (is_private s x ≡ true) × (slice_get f.names x ≡ Some (names x))) → Named names p cs → AreCopies s count f (map (copy_job s.tables) cs)
+only_copies s count f names p [] h n = tt
+only_copies s count f names p (c ∷ cs) h n =
+    let x = h c.0 n.1 in
+    (record { from = c.0; to = c.1; within = x.0; private = x.1; named = x.2 ∙ ap Some n.0; is = refl }, only_copies s count f names p cs h n.2)
+
+each_copy : (t : KeptTables) (p q : List ℕ) (f : ℕ) → length p ≤ length q → is_member f p ≡ true → Contains (map (copy_job t) (zip p q)) (copy_job t (f, name_in (zip p q) f))
+each_copy t [] q f l m = cc
+each_copy t (x ∷ p) [] f l m = absurd (omega (arith, l))
+each_copy t (x ∷ p) (y ∷ q) f l m = go (x == f) refl m (each_copy t p q f (omega (arith, l)))
+  where
+    go : (b : Bool) → (x == f) ≡ b → (b || is_member f p) ≡ true → (is_member f p ≡ true → Contains (map (copy_job t) (zip p q)) (copy_job t (f, name_in (zip p q) f)))
+        → Contains (copy_job t (x, y) ∷ map (copy_job t) (zip p q)) (copy_job t (f, option_map_or (λ (c : ℕ × ℕ). c.1) (cond b (Some (x, y)) (find (λ (c : ℕ × ℕ). c.0 == f) (zip p q))) f))
+    go true e k rest = let is : x ≡ f = grind (arith, nat_tests, e) in (0, omega arith, ap (λ z. copy_job t (z, y)) is)
+    go false e k rest = let r = rest k in (suc r.0, (let n = r.1 in omega (arith, n)), r.2)
+
+set_length : (b : Bool) (frames : List ℕ) (free : List Bool) → length (set_free b frames free) ≡ length free
+set_length b [] free = refl
+set_length b (x ∷ frames) free = set_length b frames (slice_set free x b) ∙ length-set free x b
+
+pub forks_copy_each : ForksCopyEach
+unfolding fork_plan
+forks_copy_each s free h =
+    let count = length free in
+    let p = private_frames s count in
+    let q = free_numbers free in
+    let enough : length p ≤ length q = enough_free s free h in
+    let names = name_in (zip p q) in
+    let member : (f : ℕ) → is_member f p ≡ (is_private s f && is_within 0 (0 + count) f) = member_filter (is_private s) 0 count in
+    let known : (x : ℕ) → is_member x p ≡ true → (x < count) × (is_private s x ≡ true) × (slice_get (map names (range_with_len 0 count)) x ≡ Some (names x)) =
+        λ x m.
+            let e = member x in
+            let l : x < count = grind (arith, nat_tests, e, m) in
+            (l, grind (arith, nat_tests, e, m), named_at names count x l) in
+    let at : (f to : ℕ) → f < count → slice_get (map names (range_with_len 0 count)) f ≡ Some to → names f ≡ to = λ f to l e. let g = named_at names count f l in cc in
+    record {
+      names = length-map (range_with_len 0 count) names ∙ length-range_with_len 0 count;
+      frames = set_length false (tos (zip p q)) free;
+      taken = λ f e. taken_stays (tos (zip p q)) free f e;
+      only = only_copies s count (fork_plan s free) names p (zip p q) known (named_pairs p q (apart_filter (is_private s) 0 count));
+      each = λ f to l m e.
+          let among : is_member f p ≡ true = (let g = member f in grind (arith, nat_tests, g, l, m)) in
+          subst (λ z. Contains (map (copy_job s.tables) (zip p q)) (copy_job s.tables (f, z))) (at f to l e) (each_copy s.tables p q f enough among);
+    }
 
 pub forks_apart : ForksApart
 unfolding fork_plan

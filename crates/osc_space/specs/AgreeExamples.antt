@@ -10,7 +10,8 @@ use Rattle.osc_space.specs.Space.{Space, Draft, Outcome}
 use Rattle.osc_space.specs.Free.{free_plan}
 use Rattle.osc_space.specs.Share.{no_regions}
 use Rattle.osc_space.specs.Agree.{SpaceAgrees}
-use Rattle.osc_space.specs.Examples.{terms, fresh, one_object, one_header, first_free, dead_objects, after}
+use Rattle.osc_space.specs.Examples.{terms, fresh, one_object, one_header, dead_objects, after}
+use Rattle.osc_space.specs.BatchExamples.{in_pairs, first_free}
 
 -- three tables, one block over frame 1, and the object's page over the same frame
 abbrev pub one_space : Space
@@ -77,6 +78,10 @@ last_of_leaf = record {
 
 abbrev pub last_freed : Outcome
 last_freed = free_plan (terms 1 512) 0x10001FF010 one_header last_of_leaf
+
+-- in batches of two it waits alone
+unfoldable pub last_waits : List Job
+last_waits = (free_plan (in_pairs 512) 0x10001FF010 one_header last_of_leaf).draft.jobs
 
 unfoldable pub last_jobs : List Job
 last_jobs = last_freed.draft.jobs

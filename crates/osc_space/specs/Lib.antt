@@ -21,4 +21,5 @@ pub mod RefusalLaws
 pub mod PlanLaws
 pub mod ForkLaws
 pub mod Examples
+pub mod BatchExamples
 pub mod AgreeExamples

@@ -34,9 +34,9 @@ pub record ClearsLast (harts : ℕ) (jobs : List Job) : Type 0 where
   pub before : List Job
   pub is : jobs ≡ before ++ clear_jobs harts
 
--- a free that frees: its object waits, and no block and no frame is given back until the call returns. It flushes exactly
--- where as many wait as a batch has: then its last jobs clear the boxes, and what is to be given back are the
--- blocks of all that wait, in the order of their calls
+-- a free that frees: its object waits, and no block and no frame is given back until the call
+-- returns. It flushes exactly where as many wait as a batch has: then its last jobs clear the boxes,
+-- and what is to be given back are the blocks of all that wait, in the order of their calls
 pub record FreeWaits (terms : Terms) (d : Draft) (s : Seen) (o : Outcome) : Type 0 where
   pub heap : o.draft.space.heap ≡ d.space.heap
   pub frames : o.draft.free ≡ d.free
@@ -61,7 +61,8 @@ BatchesOfOneFlush =
     → (free_plan terms pointer found d).closing ≡ GivesBack (block_of s.fact ∷ [])
 
 -- ---- realloc and flushes
--- a realloc that is done gives back the blocks of all that waited, and then its old block where it moves
+-- a realloc that is done gives back the blocks of all that waited, and then its old block where it
+-- moves
 abbrev pub ReallocsFlush : Type 0
 ReallocsFlush =
     (terms : Terms) (pointer n old object moved : ℕ) (found : Found) (d : Draft) (s : Seen)

@@ -1,4 +1,5 @@
--- The laws of refusals: a plan is refused exactly for the first of its reasons, which are wants in plain numbers.
+-- The laws of refusals: a plan is refused exactly for the first of its reasons, which are wants in
+-- plain numbers.
 use Rattle.std.specs.Prelude.{ℕ, ◌+◌, ◌≡◌, ◌≢◌, ◌<◌, ◌≤◌, ◌/◌, Bool, true, false, Some, None, List, length}
 use Rattle.osc_word.specs.declared.calls.Answer.{Answer}
 use Rattle.osc_word.specs.declared.calls.Answer.TheVariants as answer
@@ -77,7 +78,8 @@ pub record ObjectRefused (s : Seen) (found : Found) : Type 0 where
   pub none : s.fact.state ≡ Live → s.fact.canon ≡ found.first → s.fact.size ≡ found.second
       → first_reason (object_reasons (Some s) found) ≡ None
 
--- a realloc is refused for its object, and else for want; where the block stays no block frame is wanted
+-- a realloc is refused for its object, and else for want; where the block stays no block frame is
+-- wanted
 pub record ReallocRefused (s : Seen) (n : ℕ) (found : Found) (d : Draft) : Type 0 where
   pub object : (a : Answer) → first_reason (object_reasons (Some s) found) ≡ Some a
       → first_reason (realloc_reasons (Some s) n found d) ≡ Some a

@@ -67,7 +67,8 @@ abbrev pub unless : Option Answer → Draft → Outcome → Outcome
 unless None d made = made
 unless (Some refused) d made = unchanged refused d
 
--- so many frames, and those of the tables that are missing over so many pages, are more than the free ones
+-- so many frames, and those of the tables that are missing over so many pages, are more than the
+-- free ones
 abbrev pub lack_of_frames : List Bool → KeptTables → ℕ → ℕ → ℕ → Reason
 lack_of_frames free tables frames first count = reason (nat_lt (free_count free) (frames + need tables first count)) NoFrames
 

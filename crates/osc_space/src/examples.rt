@@ -1,7 +1,7 @@
 //! Worked examples of the plans. Each function does nothing: what it says is computed from the
 //! definitions.
 
-#![tactic(auto, unfolding(osc_class::specs::Rooms::room_of, osc_slot::specs::Least::least, osc_slot::specs::Least::any, osc_slot::specs::Slots::beside, osc_slot::specs::Slots::empty_page, osc_slot::specs::Ordered::insert_by, osc_slot::specs::Heap::back, osc_slot::specs::Heap::place, osc_slot::specs::Heap::release, osc_slot::specs::Heap::give_back, osc_paging::specs::KeptTables::missing, osc_paging::specs::KeptTables::need_below, osc_paging::specs::TableChanges::link_all, crate::specs::BlockWords::cut, crate::specs::Malloc::malloc_plan, crate::specs::Free::free_plan, crate::specs::Realloc::realloc_plan, crate::specs::PlainHeap::plain_malloc_plan, crate::specs::PlainHeap::plain_free_plan, crate::specs::PlainHeap::plain_realloc_plan, crate::specs::Fork::fork_reasons, crate::specs::Fork::fork_plan, crate::specs::Share::share_reasons, crate::specs::Share::share_plan, crate::specs::Finish::finished, crate::specs::Examples::mallocs, crate::specs::Examples::reallocs, crate::specs::Examples::plain_mallocs, crate::specs::Examples::malloc_jobs, crate::specs::Examples::free_jobs, crate::specs::Examples::stay_jobs, crate::specs::Examples::move_jobs, crate::specs::Examples::free_answers, crate::specs::Examples::free_frames, crate::specs::Examples::one_shared, crate::specs::Examples::one_child, crate::specs::Examples::stay_part_jobs, crate::specs::Examples::move_part_jobs, crate::specs::Examples::plain_free_jobs, crate::specs::Examples::plain_answers, crate::specs::Examples::plain_move_jobs, crate::specs::Examples::batch_jobs, crate::specs::Examples::batch_closings, crate::specs::Examples::batch_waiting, crate::specs::Examples::batch_frames, crate::specs::Examples::waiting_child, crate::specs::Examples::dead_objects, crate::specs::AgreeExamples::made_space, crate::specs::AgreeExamples::made_free, crate::specs::AgreeExamples::made_freed, crate::specs::AgreeExamples::last_jobs, crate::specs::AgreeExamples::last_frames))]
+#![tactic(auto, unfolding(osc_class::specs::Rooms::room_of, osc_slot::specs::Least::least, osc_slot::specs::Least::any, osc_slot::specs::Slots::beside, osc_slot::specs::Slots::empty_page, osc_slot::specs::Ordered::insert_by, osc_slot::specs::Heap::back, osc_slot::specs::Heap::place, osc_slot::specs::Heap::release, osc_slot::specs::Heap::give_back, osc_paging::specs::KeptTables::missing, osc_paging::specs::KeptTables::need_below, osc_paging::specs::TableChanges::link_all, crate::specs::BlockWords::cut, crate::specs::Malloc::malloc_plan, crate::specs::Free::free_plan, crate::specs::Realloc::realloc_plan, crate::specs::PlainHeap::plain_malloc_plan, crate::specs::PlainHeap::plain_free_plan, crate::specs::PlainHeap::plain_realloc_plan, crate::specs::Fork::fork_reasons, crate::specs::Fork::fork_plan, crate::specs::Share::share_reasons, crate::specs::Share::share_plan, crate::specs::Finish::finished, crate::specs::Examples::mallocs, crate::specs::Examples::reallocs, crate::specs::Examples::plain_mallocs, crate::specs::Examples::malloc_jobs, crate::specs::Examples::free_jobs, crate::specs::Examples::stay_jobs, crate::specs::Examples::move_jobs, crate::specs::Examples::free_answers, crate::specs::Examples::free_frames, crate::specs::Examples::one_shared, crate::specs::Examples::one_child, crate::specs::Examples::stay_part_jobs, crate::specs::Examples::move_part_jobs, crate::specs::Examples::plain_free_jobs, crate::specs::Examples::plain_answers, crate::specs::Examples::plain_move_jobs, crate::specs::BatchExamples::batch_jobs, crate::specs::BatchExamples::batch_closings, crate::specs::BatchExamples::batch_waiting, crate::specs::BatchExamples::batch_frames, crate::specs::BatchExamples::waiting_child, crate::specs::Examples::dead_objects, crate::specs::AgreeExamples::made_space, crate::specs::AgreeExamples::made_free, crate::specs::AgreeExamples::made_freed, crate::specs::AgreeExamples::last_waits, crate::specs::AgreeExamples::last_jobs, crate::specs::AgreeExamples::last_frames))]
 
 ghost use Rattle.std.specs.Prelude.{◌≡◌, ◌++◌, true, false, [], ◌∷◌, Some, None};
 ghost use Rattle.osc_word.specs.declared.job_list.Job.{Job};
@@ -13,9 +13,10 @@ ghost use Rattle.osc_space.specs.LeafFlags.{leaf_of_page, read_write, read_write
 ghost use Rattle.osc_space.specs.Malloc.{malloc_plan};
 ghost use Rattle.osc_space.specs.Space.{Keeps, GivesBack};
 ghost use Rattle.osc_space.specs.Share.{share_address};
-ghost use Rattle.osc_space.specs.Examples.{fresh, after, mallocs, reallocs, plain_mallocs, malloc_jobs, free_jobs, stay_jobs, move_jobs, free_answers, free_frames, unshared, share_refusal, one_shared, one_object, fork_refusal, one_child, stay_part_jobs, move_part_jobs, plain_free_jobs, plain_answers, plain_move_jobs, batch_jobs, batch_closings, batch_waiting, batch_frames, waiting_child, dead_objects, pages_with};
+ghost use Rattle.osc_space.specs.Examples.{fresh, after, mallocs, reallocs, plain_mallocs, malloc_jobs, free_jobs, stay_jobs, move_jobs, free_answers, free_frames, unshared, share_refusal, one_shared, one_object, fork_refusal, one_child, stay_part_jobs, move_part_jobs, plain_free_jobs, plain_answers, plain_move_jobs, dead_objects, pages_with};
+ghost use Rattle.osc_space.specs.BatchExamples.{batch_jobs, batch_closings, batch_waiting, batch_frames, waiting_child};
 ghost use Rattle.osc_space.specs.Objects.{leaf_dead, leaf_given_up, grant};
-ghost use Rattle.osc_space.specs.AgreeExamples.{one_space, one_free, freed_space, made_space, made_free, made_freed, last_jobs, last_frames, OneAgrees, FreedAgrees, NoneAgrees};
+ghost use Rattle.osc_space.specs.AgreeExamples.{one_space, one_free, freed_space, made_space, made_free, made_freed, last_waits, last_jobs, last_frames, OneAgrees, FreedAgrees, NoneAgrees};
 ghost use Rattle.osc_space.specs.Used.{frames_used};
 ghost use Rattle.osc_slot.specs.Areas.{block_at_slot};
 ghost use Rattle.osc_class.specs.declared.Room.TheVariants.{Small};
@@ -163,7 +164,8 @@ pub fn leaf_dies_with_its_last_page()
 {}
 
 /// An image of one page uses 22 frames, with an object 25, also once 513 pages were granted and the
-/// first leaf table was given up; an image of 100 pages uses 121. With four levels there is one table more.
+/// first leaf table was given up; an image of 100 pages uses 121. With four levels there is one
+/// table more.
 #[tactic(auto, unfolding(osc_image::specs::Frames::tables_below, osc_slot::specs::Least::passing, osc_slot::specs::Slots::block_frames, crate::specs::Used::frames_used))]
 pub fn frames_are_counted()
     ensures image { frames_used 3 (pages_with []) 0 1 64 [] ≡ 22 }
@@ -190,8 +192,9 @@ pub fn parts_can_agree()
 {}
 
 /// The free of the last object of a leaf table unlinks the table, whose frame is free with the
-/// block's once the call is finished.
+/// block's once the call is finished. Where the object waits the table stays linked.
 pub fn last_free_gives_up_the_leaf()
+    ensures waits { last_waits ≡ PutWord (record { frame = 3; index = 511 }) 0 ∷ [] }
     ensures jobs { last_jobs ≡ PutWord (record { frame = 3; index = 511 }) 0 ∷ PutWord (record { frame = 2; index = 0 }) 0 ∷ ClearBox 0 ∷ [] }
     ensures frames { last_frames ≡ (false ∷ false ∷ false ∷ false ∷ true ∷ true ∷ true ∷ true ∷ [])
         ∷ (false ∷ true ∷ false ∷ true ∷ true ∷ true ∷ true ∷ true ∷ []) ∷ [] }

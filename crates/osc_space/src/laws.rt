@@ -13,7 +13,7 @@ ghost use Rattle.osc_space.specs.Used.{tables_used};
 ghost use Rattle.osc_space.specs.RefusalLaws.{PlansGoByReasons, RefusalsKeep, RefusedForWant, ObjectRefused, ReallocRefused, PlainRefused, ForkRefused, ShareRefused};
 ghost use Rattle.osc_space.specs.PlanLaws.{MarkNeverFalls, ClearsEachBox, FreesWait, BatchesOfOneFlush, ReallocsFlush, FlushesEnd, FlushGivesUp, AddressesAreFresh};
 ghost use Rattle.osc_space.specs.WordLaws.{StretchesCut, NoPieceCrosses, BlockJobsStay};
-ghost use Rattle.osc_space.specs.ForkLaws.{ForksApart};
+ghost use Rattle.osc_space.specs.ForkLaws.{ForksApart, ForksCopyEach};
 ghost use Rattle.osc_space.specs.ObjectLaws.{GrantsKeep, PagesAreGrantedOnce, DeadLeavesAreDead};
 
 /// A plan answers the first of its reasons that holds and changes nothing then; where none holds it
@@ -24,8 +24,8 @@ pub fn plans_go_by_reasons()
     ensures keeps { RefusalsKeep }
 {}
 
-/// The reasons of malloc, realloc, fork and share, in plain numbers: each is refused exactly for want, and by
-/// which want first. A realloc is refused for its object before any want.
+/// The reasons of malloc, realloc, fork and share, in plain numbers: each is refused exactly for
+/// want, and by which want first. A realloc is refused for its object before any want.
 #[tactic(auto, using(crate::proofs::RefusalLawProofs::refused_for_want, crate::proofs::RefusalLawProofs::object_refused, crate::proofs::RefusalLawProofs::realloc_refused, crate::proofs::RefusalLawProofs::plain_refused, crate::proofs::RefusalLawProofs::fork_refused, crate::proofs::RefusalLawProofs::share_refused))]
 pub fn memory_is_refused_for_want()
     ensures want { (d : Draft) (frames pages : ℕ) → RefusedForWant d frames pages }
@@ -62,8 +62,8 @@ pub fn mark_never_falls()
 {}
 
 /// A free's object waits, and no block and no frame is given back before the call returns. Where a
-/// batch waits the last jobs clear the box of each hart, and the blocks of all that wait are to be given back
-/// in the order of their calls; where a batch is one, each free does so.
+/// batch waits the last jobs clear the box of each hart, and the blocks of all that wait are to be
+/// given back in the order of their calls; where a batch is one, each free does so.
 #[tactic(auto, using(crate::proofs::PlanLawProofs::clears_each_box, crate::proofs::PlanLawProofs::batches_of_one_flush))]
 pub fn frees_wait_for_clears()
     ensures clears { ClearsEachBox }
@@ -104,6 +104,11 @@ pub fn no_piece_crosses_a_frame()
 /// and is taken, those of blocks that wait too.
 pub fn forks_share_no_private_frame()
     ensures { ForksApart }
+{}
+
+/// The jobs of a fork are the copies of its private frames: each of them, and nothing else.
+pub fn forks_copy_each_private_frame()
+    ensures { ForksCopyEach }
 {}
 
 /// Where no leaf table was given up, a process uses the tables that an image's own count has.
