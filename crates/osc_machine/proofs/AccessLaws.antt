@@ -29,7 +29,7 @@ use Rattle.osc_calls.specs.Moves as move
 use Rattle.osc_machine.specs.Parts.{Outside, Working, HartState, State}
 use Rattle.osc_machine.specs.Turns.{HartTold, Word, Done, touched, guest_ask, place_ask, hart_ask, hart_told, place_told}
 use Rattle.osc_machine.specs.Step.{acted, step_of, step}
-use Rattle.osc_machine.specs.Agreements.{is_reservation, done_at, AccessesShow}
+use Rattle.osc_machine.specs.Laws.{is_reservation, done_at, AccessesShow}
 
 -- ---- in an instruction
 reserved_touch : (w : What) (access : MemoryAccess) (frame version word : ℕ) (u : UserHart) → is_reservation w ≡ true

@@ -1,6 +1,6 @@
 -- The kernel is in one place, and what a step does to it.
 use Rattle.std.proofs.Common.{ℕ, zero, suc, ◌≡◌, ◌+◌, ◌==◌, Bool, true, false, if◌then◌else◌, Option, Some, None, is_some, List, [], ◌∷◌, ◌++◌, map, option_map, slice_get, slice_set, arith, refl, sym, ap, subst, ◌∙◌, append_assoc}
-use Rattle.std.specs.Option.{option_to_list, option_or}
+use Rattle.std.specs.Option.{option_to_list, option_or, option_map_or}
 use Rattle.std.specs.List.{range_with_len}
 use Rattle.osc_word.specs.declared.calls.Request.{Request}
 use Rattle.osc_word.specs.declared.settings.Config.{Config}
@@ -12,9 +12,9 @@ use Rattle.osc_calls.specs.declared.Begun.{Begun}
 use Rattle.osc_calls.specs.declared.Begun.TheVariants as begun
 use Rattle.osc_calls.specs.Begin.{begin}
 use Rattle.osc_calls.specs.Plan.{plan}
-use Rattle.osc_calls.specs.JobDone.{job_done}
+use Rattle.osc_calls.specs.JobDone.{job_done, entries}
 use Rattle.osc_calls.specs.Finish.{finish}
-use Rattle.osc_calls.specs.Moves.{Move}
+use Rattle.osc_calls.specs.Moves.{Move, moves_of}
 use Rattle.osc_calls.specs.Moves as move
 use Rattle.osc_guest.specs.declared.places.Ask.{Ask}
 use Rattle.osc_guest.specs.declared.places.Ask.TheVariants as guest
@@ -22,7 +22,7 @@ use Rattle.osc_guest.specs.Asks.{ask}
 use Rattle.osc_machine.specs.declared.HartAsk.{HartAsk}
 use Rattle.osc_machine.specs.declared.HartAsk.TheVariants as does
 use Rattle.osc_machine.specs.Parts.{CallPlace, Outside, TakingBoxes, FirstWord, SecondWord, Working, GivingBoxes, Returning, Return, HartState, State}
-use Rattle.osc_machine.specs.Turns.{HartTold, Box, Kernel, Word, Gate as ToldGate, OldVersion, Done, Turn, guest_ask, copy_ask, move_ask, place_ask, hart_ask, hart_told, place_told, place_to_give, place_to_work, place_on, place_begun, first_held, found_words, kernel_taken, handed_kernel}
+use Rattle.osc_machine.specs.Turns.{HartTold, Box, Kernel, Word, Gate as ToldGate, OldVersion, Done, Turn, guest_ask, copy_ask, move_ask, place_ask, hart_ask, hart_told, place_told, return_of, place_on, place_begun, first_held, found_words, kernel_taken, handed_kernel}
 use Rattle.osc_machine.specs.Step.{Stepped, stays, step}
 use Rattle.osc_machine.specs.Did.{Turned, Unmoved, InGuest, TakesKernel, TakesBox, TakesLastBox, FindsFirst, FindsSecond, Works, EndsJob, GivesBox, GivesKernel, Asks, Did, Stayed, TookBox, GaveBox, ChangedBox, Loaded, Stored, TookGate, FoundOldVersion, OpenedGate, TookKernel, GaveKernel}
 use Rattle.osc_machine.specs.Start.{started, first_hart}
@@ -132,16 +132,14 @@ hand_to : (o : Option KernelState) (k next : KernelState) (x : HartState) → o 
 hand_to o k next x e m f i =
     record { follows = subst (λ z. Follows z x.kernel) (sym e) (next, f, m); agrees = holds_agrees next x f i }
 
-giving_in_call : (box : Option ℕ) (k : KernelState) → is_in_call (place_to_give box k) ≡ true
-giving_in_call None k = refl
-giving_in_call (Some box) k = refl
-
-working_in_call : (next : Option Job) (k : KernelState) (boxes : List (Option BoxState)) → is_in_call (place_to_work next k boxes) ≡ true
-working_in_call None k boxes = giving_in_call (first_held boxes) k
-working_in_call (Some job) k boxes = refl
+on_in : (next : Option Job) (box : Option ℕ) (k : KernelState)
+    → is_in_call (option_map_or (λ job. Working (moves_of (entries k) job) None) next (option_map_or (λ b. GivingBoxes b) box (Returning (return_of false k)))) ≡ true
+on_in None None k = refl
+on_in None (Some box) k = refl
+on_in (Some job) box k = refl
 
 on_in_call : (k : KernelState) (boxes : List (Option BoxState)) → is_in_call (place_on k boxes) ≡ true
-on_in_call k boxes = working_in_call (next_job k) k boxes
+on_in_call k boxes = on_in (next_job k) (first_held boxes) k
 
 begun_in_call : (b : Begun) (k : KernelState) (boxes : List (Option BoxState)) → is_in_call (place_begun b k boxes) ≡ true
 begun_in_call begun.Again k boxes = refl

@@ -6,3 +6,4 @@ pub mod JournalLaws
 pub mod AccessLaws
 pub mod CountLaws
 pub mod GivingLaws
+pub mod GrowthLaws

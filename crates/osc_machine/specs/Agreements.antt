@@ -1,37 +1,22 @@
 -- What the journal and the trace of a run tell is what the kernel keeps, whenever it is at home. This
 -- project's own.
-use Rattle.std.specs.Prelude.{ℕ, ◌≡◌, ◌==◌, not, Bool, true, false, Option, Some, None, is_some, List, [], ◌∷◌, option_map, map, filter, take, count_by, slice_get}
+use Rattle.std.specs.Prelude.{ℕ, ◌≡◌, ◌==◌, not, Bool, true, false, Option, Some, None, is_some, List, option_map, map, filter, take, count_by}
 use Rattle.std.specs.List.{list_any}
 use Rattle.std.specs.Option.{option_and_then}
 use Rattle.osc_word.specs.declared.settings.Config.{Config}
 use Rattle.osc_word.specs.declared.calls.Answer.{Answer}
-use Rattle.osc_word.specs.declared.calls.Answer.TheVariants as answer
-use Rattle.osc_word.specs.declared.calls.Call.TheVariants as call
+use Rattle.osc_word.specs.declared.calls.Answer.TheVariants.{Unknown}
 use Rattle.osc_word.specs.declared.calls.Entry.{Entry}
-use Rattle.osc_word.specs.declared.job_list.Job.{Job}
-use Rattle.osc_word.specs.declared.job_list.Job.TheVariants.{ToOut}
-use Rattle.osc_word.specs.declared.job_list.WordAt.{WordAt}
-use Rattle.osc_word.specs.declared.steps.Access.TheVariants.{Load}
 use Rattle.osc_word.specs.declared.steps.Label.{Label}
-use Rattle.osc_word.specs.declared.steps.Label.TheVariants.{Touched}
 use Rattle.osc_slot.specs.declared.Block.{Block}
 use Rattle.osc_space.specs.declared.ObjectFact.{ObjectFact}
 use Rattle.osc_space.specs.declared.ObjectState.{ObjectState}
 use Rattle.osc_space.specs.declared.ObjectState.TheVariants.{Live, Dead}
 use Rattle.osc_space.specs.Objects.{Seen, object_on}
 use Rattle.osc_space.specs.Space.{Space}
-use Rattle.osc_guest.specs.declared.accesses.MemoryAccess.{MemoryAccess}
-use Rattle.osc_guest.specs.declared.accesses.What.{What}
-use Rattle.osc_guest.specs.declared.accesses.What.TheVariants as what
-use Rattle.osc_guest.specs.declared.places.Stage.{Stage}
-use Rattle.osc_guest.specs.declared.places.Stage.TheVariants as stage
-use Rattle.osc_guest.specs.declared.places.Place.TheVariants as at
-use Rattle.osc_guest.specs.Accesses.{touch_of}
-use Rattle.osc_calls.specs.Kernel.{KernelState, Process, process_at, Committed, Returning}
-use Rattle.osc_calls.specs.Moves as move
-use Rattle.osc_machine.specs.Parts.{State, HartState, Outside, Working}
-use Rattle.osc_machine.specs.Turns.{touched}
-use Rattle.osc_machine.specs.Step.{step}
+use Rattle.osc_calls.specs.CallLaws.{is_denied}
+use Rattle.osc_calls.specs.Kernel.{KernelState, Process, process_at}
+use Rattle.osc_machine.specs.Parts.{State}
 use Rattle.osc_machine.specs.DeadPages.{Shadow, Grave, shadow, shadow_at, dead_at, waiting_at}
 use Rattle.osc_machine.specs.Replay.{Region, Ledger, replay}
 
@@ -56,22 +41,13 @@ ReplayAgrees config s =
     (k : KernelState) → s.kernel ≡ Some k → map account_told (replay config k.journal) ≡ map account_kept k.processes
 
 -- ---- a journal without its refused entries
-abbrev pub is_refused : Answer → Bool
-is_refused answer.NoShadow = true
-is_refused answer.NoFrames = true
-is_refused answer.NoHart = true
-is_refused answer.NoProcess = true
-is_refused answer.NoThread = true
-is_refused answer.Empty = true
-is_refused answer.Unknown = true
-is_refused (answer.DoubleFree object call) = true
-is_refused answer.NotAnObject = true
-is_refused (answer.HeaderDamaged kept found) = true
-is_refused (answer.BadBuffer address) = true
-is_refused _ = false
+-- an answer that refuses, or that knows no such call, thread or child
+abbrev pub tells_nothing : Answer → Bool
+tells_nothing Unknown = true
+tells_nothing answer = is_denied answer
 
 abbrev pub is_kept : Entry → Bool
-is_kept entry = not (is_refused entry.answer)
+is_kept entry = not (tells_nothing entry.answer)
 
 -- the place of a call once the refused entries are left out
 abbrev pub place_kept : List Entry → ℕ → ℕ
@@ -125,30 +101,3 @@ pub record TraceAgrees (trace : List Label) (k : KernelState) : Type 0 where
       → dead_at trace pid page ≡ grave_kept (λ s. not (is_waiting p.space s)) p.space page
   pub waiting : (pid page : ℕ) (p : Process) → process_at k pid ≡ Some p → p.status ≡ None
       → waiting_at trace pid page ≡ grave_kept (is_waiting p.space) p.space page
-
--- ---- accesses
-abbrev pub is_reservation : What → Bool
-is_reservation (what.Lr width) = true
-is_reservation _ = false
-
--- the access that is done at a stage with its action: an AMO and an SC are done with their store
-abbrev pub done_at : Stage → MemoryAccess → Bool
-done_at stage.Fetch access = true
-done_at stage.Load access = true
-done_at (stage.GatedLoad version) access = is_reservation access.what
-done_at (stage.GatedStore version found) access = true
-done_at (stage.TakeGate only) access = false
-
--- each access that is done shows its label: a step of a hart in an instruction that does one, and a step of
--- a write that reads bytes of its buffer
-pub record AccessesShow : Type 0 where
-  pub guest : (s : State) (n : ℕ) (h : HartState) (access : MemoryAccess) (frame : ℕ) (stage : Stage)
-      → slice_get s.harts n ≡ Some h → h.place ≡ Outside → h.user.place ≡ at.Access access frame stage
-      → done_at stage access ≡ true
-      → (step s n).shows ≡ touched h.number (touch_of access true h.user) ∷ []
-  pub write : (s : State) (n : ℕ) (h : HartState) (k : KernelState) (from : WordAt) (first count buf len total : ℕ)
-      (read : Option ℕ) (done : Committed) (jobs : List Job)
-      → slice_get s.harts n ≡ Some h → h.place ≡ Working (move.Out from ∷ []) read → h.kernel ≡ Some k
-      → k.jobs ≡ ToOut from first count ∷ jobs → k.under_way ≡ Returning done
-      → done.calling.call ≡ call.Write buf len → done.answer ≡ answer.Number total
-      → (address : ℕ) × ((step s n).shows ≡ Touched done.calling.pid done.calling.hart address count Load true ∷ [])

@@ -1,18 +1,34 @@
 -- The laws of the machine: when a step stays, what it leaves alone, how runs go on and end, and that the
 -- kernel is in one place and its marks never fall.
-use Rattle.std.specs.Prelude.{ℕ, ◌+◌, ◌≡◌, ◌≢◌, ◌<◌, Bool, true, false, Option, Some, None, is_some, List, [], ◌∷◌, ◌++◌, length, slice_get, slice_set, count_by, ◌==◌}
+use Rattle.std.specs.Prelude.{ℕ, ◌+◌, ◌≡◌, ◌≢◌, ◌<◌, ◌≤◌, Bool, true, false, Option, Some, None, is_some, List, [], ◌∷◌, ◌++◌, length, slice_get, slice_set, count_by, ◌==◌}
 use Rattle.std.specs.Option.{option_to_list}
 use Rattle.osc_word.specs.declared.calls.Request.{Request}
+use Rattle.osc_word.specs.declared.calls.Answer.TheVariants as answer
+use Rattle.osc_word.specs.declared.calls.Call.TheVariants as call
 use Rattle.osc_word.specs.declared.calls.Entry.{Entry}
+use Rattle.osc_word.specs.declared.job_list.Job.{Job}
+use Rattle.osc_word.specs.declared.job_list.Job.TheVariants.{ToOut}
+use Rattle.osc_word.specs.declared.steps.Access.TheVariants.{Load}
+use Rattle.osc_word.specs.declared.steps.Label.TheVariants.{Touched}
 use Rattle.osc_word.specs.declared.job_list.WordAt.{WordAt}
 use Rattle.osc_word.specs.declared.settings.Config.{Config}
 use Rattle.osc_word.specs.declared.steps.Event.{Event}
 use Rattle.osc_sv39.specs.Walk.{put_word}
 use Rattle.osc_image.specs.Image.{Image}
 use Rattle.osc_paging.specs.Boxes.{BoxState}
-use Rattle.osc_guest.specs.User.{emptied as guest_emptied}
+use Rattle.osc_guest.specs.declared.accesses.MemoryAccess.{MemoryAccess}
+use Rattle.osc_guest.specs.declared.accesses.What.{What}
+use Rattle.osc_guest.specs.declared.accesses.What.TheVariants as what
+use Rattle.osc_guest.specs.declared.places.Stage.{Stage}
+use Rattle.osc_guest.specs.declared.places.Stage.TheVariants as stage
+use Rattle.osc_guest.specs.declared.places.Place.TheVariants as guest_at
+use Rattle.osc_guest.specs.Accesses.{touch_of}
+use Rattle.osc_guest.specs.User.{without_box}
 use Rattle.osc_space.specs.Header.{Found}
-use Rattle.osc_calls.specs.Kernel.{KernelState}
+use Rattle.osc_space.specs.Objects.{mark}
+use Rattle.osc_calls.specs.Kernel.{KernelState, Process, process_at, Committed, Returning as CallReturning}
+use Rattle.osc_calls.specs.Moves as move
+use Rattle.osc_calls.specs.ObjectLaws.{KeepsObjects}
 use Rattle.osc_calls.specs.Begin.{begin}
 use Rattle.osc_calls.specs.Plan.{plan}
 use Rattle.osc_calls.specs.JobDone.{job_done}
@@ -20,13 +36,13 @@ use Rattle.osc_calls.specs.Finish.{finish}
 use Rattle.osc_machine.specs.declared.HartAsk.{HartAsk}
 use Rattle.osc_machine.specs.declared.HartAsk.TheVariants as does
 use Rattle.osc_machine.specs.Parts.{Gate, CallPlace, Outside, TakingBoxes, FirstWord, SecondWord, Working, GivingBoxes, Returning, HartState, State}
-use Rattle.osc_machine.specs.Turns.{Busy, Done, quietly, hart_ask, hart_told}
+use Rattle.osc_machine.specs.Turns.{Busy, Done, quietly, hart_ask, hart_told, touched}
 use Rattle.osc_machine.specs.Step.{stays, box_at, is_shut, step}
 use Rattle.osc_machine.specs.Run.{Ran, run_on, run, at, until_over}
 use Rattle.osc_machine.specs.Start.{started}
 use Rattle.osc_machine.specs.Views.{kernel_of, machine_over, capped, retired}
 use Rattle.osc_machine.specs.Replay.{Ledger, noted, noted_from}
-use Rattle.osc_machine.specs.Agreements.{is_refused}
+use Rattle.osc_machine.specs.Agreements.{tells_nothing}
 
 -- ---- staying
 -- a hart that there is not
@@ -68,7 +84,7 @@ HandAgrees h = is_some h.kernel ≡ is_in_call h.place
 abbrev pub bared_at : CallPlace → HartState → HartState
 bared_at (GivingBoxes box) h = record h { boxes = slice_set h.boxes box None }
 bared_at (Returning return) h = record h { kernel = None }
-bared_at Outside h = record h { user = guest_emptied h.user }
+bared_at Outside h = record h { user = without_box h.user }
 bared_at _ h = h
 
 abbrev pub bared : HartState → HartState
@@ -171,6 +187,29 @@ KernelSeen = (s : State) (k : KernelState) → HasKernel s k → kernel_of s ≡
 abbrev pub StartHasKernel : Type 0
 StartHasKernel = (image : Image) (config : Config) (k : KernelState) → HasKernel (started image config k) k
 
+-- ---- objects and marks
+-- no process is dropped, its objects only grow, and its mark does not fall
+abbrev pub HasMark : ℕ → Option Process → Type 0
+HasMark pages None = ⊥
+HasMark pages (Some p) = pages ≤ mark p.space.objects
+
+pub record GrowsIn (s : State) (k : KernelState) : Type 0 where
+  pub last : KernelState
+  pub has : HasKernel s last
+  pub objects : KeepsObjects k last
+  pub marks : (pid : ℕ) (p : Process) → process_at k pid ≡ Some p → HasMark (mark p.space.objects) (process_at last pid)
+
+abbrev pub GrowsInSteps : Type 0
+GrowsInSteps = (s : State) (n : ℕ) (k : KernelState) → HasKernel s k → GrowsIn (step s n).state k
+
+-- from a state on, and so from the start
+abbrev pub GrowsInRuns : Type 0
+GrowsInRuns = (s : State) (picks : List ℕ) (k : KernelState) → HasKernel s k → GrowsIn (run s picks).state k
+
+abbrev pub GrowsFromStart : Type 0
+GrowsFromStart =
+    (image : Image) (config : Config) (k : KernelState) (picks : List ℕ) → GrowsIn (run (started image config k) picks).state k
+
 -- ---- counts
 abbrev pub is_of : ℕ → Event → Bool
 is_of n event = event.hart == n
@@ -190,7 +229,34 @@ EventsCounted =
 -- an entry that was refused tells nothing of any process: the entries after it tell what they do without it,
 -- but for the calls' numbers
 pub record RefusedEntriesTellNothing : Type 0 where
-  pub one : (config : Config) (call : ℕ) (entry : Entry) (ledgers : List Ledger) → is_refused entry.answer ≡ true
+  pub one : (config : Config) (call : ℕ) (entry : Entry) (ledgers : List Ledger) → tells_nothing entry.answer ≡ true
       → noted config call entry ledgers ≡ ledgers
-  pub more : (config : Config) (call : ℕ) (entry : Entry) (entries : List Entry) (ledgers : List Ledger) → is_refused entry.answer ≡ true
+  pub more : (config : Config) (call : ℕ) (entry : Entry) (entries : List Entry) (ledgers : List Ledger) → tells_nothing entry.answer ≡ true
       → noted_from config call (entry ∷ entries) ledgers ≡ noted_from config (call + 1) entries ledgers
+
+-- ---- accesses
+abbrev pub is_reservation : What → Bool
+is_reservation (what.Lr width) = true
+is_reservation _ = false
+
+-- the access that is done at a stage with its action: an AMO and an SC are done with their store
+abbrev pub done_at : Stage → MemoryAccess → Bool
+done_at stage.Fetch access = true
+done_at stage.Load access = true
+done_at (stage.GatedLoad version) access = is_reservation access.what
+done_at (stage.GatedStore version found) access = true
+done_at (stage.TakeGate only) access = false
+
+-- each access that is done shows its label: a step of a hart in an instruction that does one, and a step of
+-- a write that reads bytes of its buffer
+pub record AccessesShow : Type 0 where
+  pub guest : (s : State) (n : ℕ) (h : HartState) (access : MemoryAccess) (frame : ℕ) (stage : Stage)
+      → slice_get s.harts n ≡ Some h → h.place ≡ Outside → h.user.place ≡ guest_at.Access access frame stage
+      → done_at stage access ≡ true
+      → (step s n).shows ≡ touched h.number (touch_of access true h.user) ∷ []
+  pub write : (s : State) (n : ℕ) (h : HartState) (k : KernelState) (from : WordAt) (first count buf len total : ℕ)
+      (read : Option ℕ) (done : Committed) (jobs : List Job)
+      → slice_get s.harts n ≡ Some h → h.place ≡ Working (move.Out from ∷ []) read → h.kernel ≡ Some k
+      → k.jobs ≡ ToOut from first count ∷ jobs → k.under_way ≡ CallReturning done
+      → done.calling.call ≡ call.Write buf len → done.answer ≡ answer.Number total
+      → (address : ℕ) × ((step s n).shows ≡ Touched done.calling.pid done.calling.hart address count Load true ∷ [])

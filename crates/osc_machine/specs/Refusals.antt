@@ -9,7 +9,7 @@ use Rattle.osc_word.specs.declared.calls.Entry.{Entry}
 use Rattle.osc_word.specs.declared.calls.Call.{Call}
 use Rattle.osc_word.specs.declared.calls.Call.TheVariants.{Malloc, Realloc, Fork, Spawn, Share}
 use Rattle.osc_word.specs.declared.calls.Answer.{Answer}
-use Rattle.osc_word.specs.declared.calls.Answer.TheVariants.{Number, Given, Moved, Placed, NoShadow, NoFrames, NoHart, NoProcess, NoThread, Empty, DoubleFree, NotAnObject, HeaderDamaged}
+use Rattle.osc_word.specs.declared.calls.Answer.TheVariants.{Number, Given, Moved, Placed, NoShadow, NoFrames, NoHart, NoProcess, NoThread, Empty}
 use Rattle.osc_word.specs.AddressMap.{first_shared_page, first_shadow_page}
 use Rattle.osc_word.specs.Environment.{thread_limit}
 use Rattle.osc_class.specs.declared.Room.{Room}
@@ -23,6 +23,7 @@ use Rattle.osc_space.specs.Objects.{Seen, mark, next_page, object_at, leaf_given
 use Rattle.osc_space.specs.Header.{block_of}
 use Rattle.osc_space.specs.Space.{Reason, reason, first_reason}
 use Rattle.osc_space.specs.Used.{frames_used}
+use Rattle.osc_calls.specs.CallLaws.{is_want, is_heap_fault}
 use Rattle.osc_calls.specs.Kernel.{KernelState, idle_hart}
 use Rattle.osc_machine.specs.Parts.{State}
 use Rattle.osc_machine.specs.Run.{at}
@@ -128,22 +129,10 @@ refusal s journal idle pid call =
     let ledgers = replay s.config journal in first_reason (reasons s ledgers idle (ledger_at ledgers pid) call)
 
 -- ---- the rule
--- the refusal that an answer is
-abbrev pub refused_by : Answer → Option Answer
-refused_by NoShadow = Some NoShadow
-refused_by NoFrames = Some NoFrames
-refused_by NoHart = Some NoHart
-refused_by NoProcess = Some NoProcess
-refused_by NoThread = Some NoThread
-refused_by Empty = Some Empty
-refused_by _ = None
-
 -- a realloc of what is no live object, or of a damaged header, faults before anything is refused
 abbrev pub faults : Call → Answer → Bool
-faults (Realloc pointer size) (DoubleFree object call) = true
-faults (Realloc pointer size) NotAnObject = true
-faults (Realloc pointer size) (HeaderDamaged kept found) = true
-faults _ _ = false
+faults (Realloc pointer size) answer = is_heap_fault answer
+faults _ answer = false
 
 -- what a call that may be refused answers where it is not
 abbrev pub gives : Call → Answer → Bool
@@ -165,7 +154,7 @@ gives _ _ = true
 -- what a call answered is a refusal, this one, or gives
 abbrev pub Answers : Option Answer → Call → Answer → Type 0
 Answers (Some refused) call answer = answer ≡ refused
-Answers None call answer = (refused_by answer ≡ None) × (gives call answer ≡ true)
+Answers None call answer = (is_want answer ≡ false) × (gives call answer ≡ true)
 
 -- each step of a run that enters a call in the journal answers as the rule says, by the journal and the
 -- records of harts before it

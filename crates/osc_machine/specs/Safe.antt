@@ -7,12 +7,13 @@ use Rattle.std.specs.List.{Contains}
 use Rattle.std.specs.Option.{option_map_or, option_and_then}
 use Rattle.osc_word.specs.declared.steps.Access.{Access}
 use Rattle.osc_word.specs.declared.steps.Label.{Label}
-use Rattle.osc_word.specs.declared.steps.Label.TheVariants.{Gave, Freeing, Freed, Moving, Moved, Touched, Forked, Ended}
+use Rattle.osc_word.specs.declared.steps.Label.TheVariants.{Gave, Moved, Touched}
 use Rattle.osc_word.specs.declared.job_list.WordAt.{WordAt}
 use Rattle.osc_word.specs.declared.calls.Entry.{Entry}
 use Rattle.osc_word.specs.declared.calls.Fault.TheVariants as fault
 use Rattle.osc_word.specs.declared.calls.Answer.TheVariants.{BadBuffer}
 use Rattle.osc_slot.specs.declared.Block.{Block}
+use Rattle.osc_slot.specs.Areas.{LieApart}
 use Rattle.osc_slot.specs.Slots.{is_held, is_block}
 use Rattle.osc_slot.specs.Heap.{frame_of}
 use Rattle.osc_calls.specs.declared.Place.TheVariants.{Dead}
@@ -22,7 +23,6 @@ use Rattle.osc_space.specs.declared.ObjectFact.{ObjectFact}
 use Rattle.osc_space.specs.Objects.{fact}
 use Rattle.osc_space.specs.Header.{block_of}
 use Rattle.osc_space.specs.Space.{Space}
-use Rattle.osc_class.specs.Rooms.{block_bytes}
 use Rattle.osc_machine.specs.declared.HartAsk.{HartAsk}
 use Rattle.osc_machine.specs.declared.HartAsk.TheVariants.{Load, Store, OpenGate}
 use Rattle.osc_machine.specs.Parts.{HartState, State}
@@ -57,15 +57,14 @@ abbrev pub HoldsKernel : State → List ℕ → ℕ → ℕ → ℕ → Type 0
 HoldsKernel start picks hart from to =
     (i : ℕ) → from ≤ i → i ≤ to → IsSome (option_and_then (λ (h : HartState). h.kernel) (hart_at start picks hart i))
 
--- an action that stores no word and opens no gate
-abbrev pub IsNoStore : HartAsk → Type 0
-IsNoStore (Store at value) = ⊥
-IsNoStore (OpenGate frame version) = ⊥
-IsNoStore _ = Unit {0}
+-- an action that stores a word or opens a gate
+abbrev pub stores : HartAsk → Bool
+stores (Store at value) = true
+stores (OpenGate frame version) = true
+stores _ = false
 
-abbrev pub StoresNothing : Option HartState → Type 0
-StoresNothing None = Unit {0}
-StoresNothing (Some h) = IsNoStore (hart_ask h)
+abbrev pub hart_stores : Option HartState → Bool
+hart_stores hart = option_map_or (λ h. stores (hart_ask h)) hart false
 
 abbrev pub registers : Option HartState → List ℕ
 registers hart = option_map_or (λ (h : HartState). h.user.regs) hart []
@@ -76,7 +75,7 @@ pc hart = option_map_or (λ (h : HartState). h.user.pc) hart 0
 -- from one moment to another, and in the step after it, a hart stores nothing, and keeps its registers and
 -- its pc
 pub record ChangesNothing (start : State) (picks : List ℕ) (hart from to : ℕ) : Type 0 where
-  pub stores : (i : ℕ) → from ≤ i → i ≤ to → StoresNothing (hart_at start picks hart i)
+  pub quiet : (i : ℕ) → from ≤ i → i ≤ to → hart_stores (hart_at start picks hart i) ≡ false
   pub keeps_registers : registers (hart_at start picks hart from) ≡ registers (hart_at start picks hart (to + 1))
   pub keeps_pc : pc (hart_at start picks hart from) ≡ pc (hart_at start picks hart (to + 1))
 
@@ -123,9 +122,6 @@ space_of s pid = option_map (λ (p : Process). p.space) (option_and_then (λ k. 
 abbrev pub fact_of : State → ℕ → ℕ → Option ObjectFact
 fact_of s pid object = option_and_then (λ (p : Space). fact p.objects object) (space_of s pid)
 
-abbrev pub end_of : Block → ℕ
-end_of block = block.start + block_bytes block.room
-
 -- an address on a page of an object of a process is that of a word in the frame of the object's block; and
 -- that block is held, and overlaps no other held block of the process
 pub record LiesInBlock (s : State) (pid address object : ℕ) (word : WordAt) : Type 0 where
@@ -136,8 +132,7 @@ pub record LiesInBlock (s : State) (pid address object : ℕ) (word : WordAt) : 
   pub frame : frame_of space.heap.pages (o.canon / 4096 + (address / 4096 - o.first)) ≡ Some word.frame
   pub index : word.index ≡ address % 4096 / 8
   pub held : is_held space.heap.held (block_of o) ≡ true
-  pub apart : (other : Block) → Contains space.heap.held other → is_block (block_of o) other ≡ false
-      → (end_of (block_of o) ≤ other.start) ⊎ (end_of other ≤ (block_of o).start)
+  pub apart : (other : Block) → Contains space.heap.held other → is_block (block_of o) other ≡ false → LieApart (block_of o) other
 
 -- the action of a hart after this moment reaches such a word
 abbrev pub ReachesBlock : State → List ℕ → ℕ → ℕ → ℕ → ℕ → ℕ → Type 0
@@ -167,12 +162,7 @@ pub record Grant : Type 0 where
 abbrev pub grant_in : Label → Option Grant
 grant_in (Gave pid object first pages size) = Some (record { pid = pid; shadow = shadow object first pages })
 grant_in (Moved pid old call object first pages size) = Some (record { pid = pid; shadow = shadow object first pages })
-grant_in (Freeing pid object call) = None
-grant_in (Freed pid object call) = None
-grant_in (Moving pid old call) = None
-grant_in (Touched pid hart address width kind done) = None
-grant_in (Forked pid child) = None
-grant_in (Ended pid faulted status) = None
+grant_in _ = None
 
 -- ---- the whole
 pub record Safe (start : State) (picks : List ℕ) : Type 0 where

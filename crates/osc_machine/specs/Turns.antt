@@ -1,8 +1,7 @@
 -- What a hart asks of the machine next, and what it makes of the answer: in guest instructions as its
 -- guest part does, and in a call step by step. This project's own.
 use Rattle.std.specs.Prelude.{ℕ, ◌+◌, ◌==◌, Bool, true, false, if◌then◌else◌, Option, Some, None, List, [], ◌∷◌, slice_index_or, slice_set, position, is_some, option_map}
-use Rattle.std.specs.Option.{option_to_list}
-use Rattle.osc_word.specs.declared.job_list.Job.{Job}
+use Rattle.std.specs.Option.{option_to_list, option_map_or}
 use Rattle.osc_word.specs.declared.job_list.WordAt.{WordAt}
 use Rattle.osc_word.specs.declared.steps.Choice.{Choice}
 use Rattle.osc_word.specs.declared.steps.Event.{Event}
@@ -20,7 +19,7 @@ use Rattle.osc_space.specs.Header.{Found}
 use Rattle.osc_calls.specs.declared.Begun.{Begun}
 use Rattle.osc_calls.specs.declared.Begun.TheVariants as begun
 use Rattle.osc_calls.specs.declared.BoxChange.{BoxChange}
-use Rattle.osc_calls.specs.declared.BoxChange.TheVariants.{Keep, Clear, Put}
+use Rattle.osc_calls.specs.declared.BoxChange.TheVariants.{Keep}
 use Rattle.osc_calls.specs.Kernel.{KernelState, Shown, next_job}
 use Rattle.osc_calls.specs.Begin.{begin}
 use Rattle.osc_calls.specs.Plan.{plan}
@@ -119,17 +118,11 @@ return_of full k = record { resume = (finish k).resume; shows = (finish k).shows
 abbrev pub first_held : List (Option BoxState) → Option ℕ
 first_held boxes = position (λ (b : Option BoxState). is_some b) boxes
 
-abbrev pub place_to_give : Option ℕ → KernelState → CallPlace
-place_to_give None k = Returning (return_of false k)
-place_to_give (Some box) k = GivingBoxes box
-
-abbrev pub place_to_work : Option Job → KernelState → List (Option BoxState) → CallPlace
-place_to_work None k boxes = place_to_give (first_held boxes) k
-place_to_work (Some job) k boxes = Working (moves_of (entries k) job) None
-
 -- at the jobs that are left, then at the boxes to be given, and then the kernel is given
 abbrev pub place_on : KernelState → List (Option BoxState) → CallPlace
-place_on k boxes = place_to_work (next_job k) k boxes
+place_on k boxes =
+    option_map_or (λ job. Working (moves_of (entries k) job) None) (next_job k)
+    (option_map_or (λ box. GivingBoxes box) (first_held boxes) (Returning (return_of false k)))
 
 -- once the kernel has looked at the request
 abbrev pub place_begun : Begun → KernelState → List (Option BoxState) → CallPlace
@@ -206,8 +199,7 @@ place_after AllDone k boxes = place_on k boxes
 -- a cache more was emptied
 abbrev pub clears_more : BoxChange → ℕ → ℕ
 clears_more Keep clears = clears
-clears_more Clear clears = risen clears
-clears_more (Put order) clears = risen clears
+clears_more _ clears = risen clears
 
 -- by a move, which may change a box
 abbrev pub clears_by : List Move → KernelState → ℕ → ℕ

@@ -2,9 +2,12 @@
 
 ghost use Rattle.std.specs.Prelude.{ℕ, ◌≡◌, List, [], ◌∷◌};
 ghost use Rattle.osc_machine.specs.Picks.{picks};
-ghost use Rattle.osc_machine.specs.Agreements.{AccessesShow};
 ghost use Rattle.osc_machine.specs.Did.{TurnsByRow, StepsByRow};
 ghost use Rattle.osc_machine.specs.Laws.{
+  AccessesShow,
+  GrowsInSteps,
+  GrowsInRuns,
+  GrowsFromStart,
   NobodyStays,
   RestStays,
   BusyKeeps,
@@ -74,6 +77,13 @@ pub fn kernel_in_one_place()
     ensures stays { KernelStays }
     ensures seen { KernelSeen }
     ensures start { StartHasKernel }
+{}
+
+/// Along a run no process is dropped, objects only grow, and no mark falls.
+pub fn objects_grow()
+    ensures steps { GrowsInSteps }
+    ensures runs { GrowsInRuns }
+    ensures start { GrowsFromStart }
 {}
 
 /// The count that is printed of a hart is that of its committed events.
