@@ -15,7 +15,7 @@ use Rattle.osc_calls.specs.JobDone.{job_done}
 use Rattle.osc_machine.specs.declared.HartAsk.{HartAsk}
 use Rattle.osc_machine.specs.declared.HartAsk.TheVariants as does
 use Rattle.osc_machine.specs.Parts.{Gate, CallPlace, Outside, TakingBoxes, FirstWord, SecondWord, Working, GivingBoxes, Returning, Return, HartState, State}
-use Rattle.osc_machine.specs.Turns.{HartTold, Box, Kernel, Word, Gate as ToldGate, OldVersion, Done, Turn, quietly, hart_ask, hart_told, handed_box, handed_kernel, box_given, from_guest, place_on, kernel_taken, in_call, as_before, found_words, Progress, StillAt, AllDone, progress_of, clears_by, box_gone, kernel_gone}
+use Rattle.osc_machine.specs.Turns.{HartTold, Box, Kernel, Word, Gate as ToldGate, OldVersion, Done, Turn, quietly, hart_ask, hart_told, handed_box, handed_kernel, box_given, from_guest, place_on, kernel_taken, in_call, as_before, found_words, MovesLeft, StillAt, AllDone, moves_left, clears_by, box_gone, kernel_gone}
 use Rattle.osc_machine.specs.Step.{Stepped, step, stays, tells, box_at, with_box, is_shut, is_wanted, with_gate}
 
 -- ---- the hart
@@ -40,11 +40,11 @@ pub data Turned (h : HartState) (t : HartTold) (turn : Turn) : Type 0 where
       → turn ≡ in_call true (plan (found_words found word) k) (place_on (plan (found_words found word) k).kernel h.boxes) h
       → Turned h t turn
   Works : (moves left : List Move) (read now : Option ℕ) (word : ℕ) (k : KernelState) → h.place ≡ Working moves read → h.kernel ≡ Some k
-      → progress_of moves read word ≡ StillAt left now
+      → moves_left moves read word ≡ StillAt left now
       → turn ≡ in_call false (as_before k) (Working left now) (record h { clears = clears_by moves k h.clears })
       → Turned h t turn
   EndsJob : (moves : List Move) (read : Option ℕ) (word : ℕ) (k : KernelState) → h.place ≡ Working moves read → h.kernel ≡ Some k
-      → progress_of moves read word ≡ AllDone
+      → moves_left moves read word ≡ AllDone
       → turn ≡ in_call false (job_done word k) (place_on (job_done word k).kernel h.boxes) (record h { clears = clears_by moves k h.clears })
       → Turned h t turn
   GivesBox : (box : ℕ) (k : KernelState) → h.place ≡ GivingBoxes box → h.kernel ≡ Some k → t ≡ Done → turn ≡ box_gone box k h
