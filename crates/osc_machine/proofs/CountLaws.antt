@@ -1,5 +1,5 @@
 -- Counts: each event of a hart raises its count by one.
-use Rattle.std.proofs.Common.{ℕ, zero, suc, ◌≡◌, ◌≢◌, ◌+◌, ◌-◌, ◌^◌, ◌==◌, min, Bool, true, false, cond, if◌then◌else◌, Option, Some, None, List, [], ◌∷◌, ◌++◌, map, option_map, slice_get, slice_set, sum_by, arith, refl, sym, ap, subst, ◌∙◌}
+use Rattle.std.proofs.Common.{ℕ, zero, suc, ◌≡◌, ◌≢◌, ◌+◌, ◌-◌, ◌^◌, min, Bool, true, false, cond, Option, Some, None, List, [], ◌∷◌, ◌++◌, map, option_map, slice_get, slice_set, sum_by, arith, refl, sym, ap, subst, ◌∙◌}
 use Rattle.std.specs.Option.{option_to_list}
 use Rattle.std.proofs.lemmas.Bool.Decides.{nat_tests}
 use Rattle.std.proofs.lemmas.List.{append-nil}
@@ -11,7 +11,7 @@ use Rattle.osc_word.specs.declared.calls.Resume.{Resume}
 use Rattle.osc_word.specs.declared.orders.Start.{Start}
 use Rattle.osc_word.specs.declared.steps.Choice.{Choice}
 use Rattle.osc_word.specs.declared.steps.Event.{Event}
-use Rattle.osc_calls.specs.Kernel.{KernelState, Shown}
+use Rattle.osc_calls.specs.Kernel.{Shown}
 use Rattle.osc_guest.specs.User.{UserHart, Answered, risen}
 use Rattle.osc_guest.specs.Laws.{count_after}
 use Rattle.osc_guest.proofs.Hands.{choices_counted}

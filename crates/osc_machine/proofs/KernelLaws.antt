@@ -1,5 +1,5 @@
 -- The kernel is in one place, and what a step does to it.
-use Rattle.std.proofs.Common.{ℕ, zero, suc, ◌≡◌, ◌+◌, ◌==◌, Bool, true, false, if◌then◌else◌, Option, Some, None, is_some, List, [], ◌∷◌, ◌++◌, map, option_map, slice_get, slice_set, arith, refl, sym, ap, subst, ◌∙◌, append_assoc}
+use Rattle.std.proofs.Common.{ℕ, zero, suc, ◌≡◌, true, false, Option, Some, None, is_some, List, [], ◌∷◌, ◌++◌, map, option_map, slice_get, slice_set, arith, refl, sym, ap, subst, ◌∙◌, append_assoc}
 use Rattle.std.specs.Option.{option_to_list, option_or, option_map_or}
 use Rattle.std.specs.List.{range_with_len}
 use Rattle.osc_word.specs.declared.calls.Request.{Request}
@@ -22,10 +22,10 @@ use Rattle.osc_guest.specs.Asks.{ask}
 use Rattle.osc_machine.specs.declared.HartAsk.{HartAsk}
 use Rattle.osc_machine.specs.declared.HartAsk.TheVariants as does
 use Rattle.osc_machine.specs.Parts.{CallPlace, Outside, TakingBoxes, FirstWord, SecondWord, Working, GivingBoxes, Returning, Return, HartState, State}
-use Rattle.osc_machine.specs.Turns.{HartTold, Box, Kernel, Word, Gate as ToldGate, OldVersion, Done, Turn, guest_ask, copy_ask, move_ask, place_ask, hart_ask, hart_told, place_told, return_of, place_on, place_begun, first_held, found_words, kernel_taken, handed_kernel}
-use Rattle.osc_machine.specs.Step.{Stepped, stays, step}
+use Rattle.osc_machine.specs.Turns.{HartTold, Box, Kernel, Word, Gate as ToldGate, OldVersion, Done, Turn, guest_ask, move_ask, place_ask, hart_ask, hart_told, place_told, return_of, place_on, place_begun, first_held, found_words, kernel_taken, handed_kernel}
+use Rattle.osc_machine.specs.Step.{Stepped, step}
 use Rattle.osc_machine.specs.Did.{Turned, Unmoved, InGuest, TakesKernel, TakesBox, TakesLastBox, FindsFirst, FindsSecond, Works, EndsJob, GivesBox, GivesKernel, Asks, Did, Stayed, TookBox, GaveBox, ChangedBox, Loaded, Stored, TookGate, FoundOldVersion, OpenedGate, TookKernel, GaveKernel}
-use Rattle.osc_machine.specs.Start.{started, first_hart}
+use Rattle.osc_machine.specs.Start.{first_hart}
 use Rattle.osc_machine.specs.Views.{held_kernel}
 use Rattle.osc_machine.specs.Laws.{is_in_call, HandAgrees, kernels_held, kernels, HasKernel, Moves, Same, Begins, Plans, EndsJob as Ends, Finishes, KernelMoves, KernelStays, KernelSeen, StartHasKernel}
 use Rattle.osc_machine.proofs.RowLaws.{turns_by_row, steps_by_row}

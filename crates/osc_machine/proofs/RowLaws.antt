@@ -1,5 +1,5 @@
 -- Each turn and each step is one of their rows.
-use Rattle.std.proofs.Common.{ℕ, ◌≡◌, ◌+◌, ◌==◌, Bool, true, false, Option, Some, None, List, [], ◌∷◌, slice_get, slice_set, arith, refl, sym, ap, ◌∙◌}
+use Rattle.std.proofs.Common.{ℕ, ◌≡◌, ◌+◌, ◌==◌, Bool, true, false, Option, Some, None, List, slice_get, arith, refl}
 use Rattle.osc_paging.specs.Boxes.{BoxState}
 use Rattle.osc_guest.specs.declared.places.Ask.{Ask}
 use Rattle.osc_guest.specs.declared.places.Ask.TheVariants as guest
@@ -10,8 +10,8 @@ use Rattle.osc_calls.specs.Moves.{Move}
 use Rattle.osc_machine.specs.declared.HartAsk.{HartAsk}
 use Rattle.osc_machine.specs.declared.HartAsk.TheVariants as does
 use Rattle.osc_machine.specs.Parts.{Gate, CallPlace, Outside, TakingBoxes, FirstWord, SecondWord, Working, GivingBoxes, Returning, HartState, State}
-use Rattle.osc_machine.specs.Turns.{HartTold, Box, Kernel, Word, Gate as ToldGate, Busy, OldVersion, Done, Turn, hart_ask, hart_told, place_told, kernel_taken, box_taken, action_done, MovesLeft, StillAt, AllDone, moves_left}
-use Rattle.osc_machine.specs.Step.{Stepped, step, step_of, acted, stays, tells, box_at, takes_box, changes_box, takes_gate, takes_kernel, with_gate, is_shut, is_wanted}
+use Rattle.osc_machine.specs.Turns.{HartTold, Box, Kernel, Word, Gate as ToldGate, Busy, OldVersion, Done, hart_ask, hart_told, place_told, kernel_taken, box_taken, action_done, MovesLeft, StillAt, AllDone, moves_left}
+use Rattle.osc_machine.specs.Step.{step, step_of, acted, box_at, takes_box, changes_box, takes_gate, takes_kernel, is_shut, is_wanted}
 use Rattle.osc_machine.specs.Did.{Turned, Unmoved, InGuest, TakesKernel, TakesBox, TakesLastBox, FindsFirst, FindsSecond, Works, EndsJob, GivesBox, GivesKernel, Asks, Did, Stayed, TookBox, GaveBox, ChangedBox, Loaded, Stored, TookGate, FoundOldVersion, OpenedGate, TookKernel, GaveKernel, TurnsByRow, StepsByRow}
 
 -- ---- turns

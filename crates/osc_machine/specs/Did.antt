@@ -1,6 +1,6 @@
 -- What a step is, row by row: it stays, or the hart's action is done on the one thing that it names and the
 -- hart is told; and what the hart makes of it. Each constructor has the equations of its row.
-use Rattle.std.specs.Prelude.{ℕ, ◌+◌, ◌==◌, ◌≡◌, Bool, true, false, Option, Some, None, List, [], ◌∷◌, slice_get, slice_set}
+use Rattle.std.specs.Prelude.{ℕ, ◌+◌, ◌==◌, ◌≡◌, true, false, Option, Some, None, List, slice_get, slice_set}
 use Rattle.osc_word.specs.declared.calls.Request.{Request}
 use Rattle.osc_word.specs.declared.job_list.WordAt.{WordAt}
 use Rattle.osc_sv39.specs.Walk.{word_at, put_word}
@@ -14,8 +14,8 @@ use Rattle.osc_calls.specs.Plan.{plan}
 use Rattle.osc_calls.specs.JobDone.{job_done}
 use Rattle.osc_machine.specs.declared.HartAsk.{HartAsk}
 use Rattle.osc_machine.specs.declared.HartAsk.TheVariants as does
-use Rattle.osc_machine.specs.Parts.{Gate, CallPlace, Outside, TakingBoxes, FirstWord, SecondWord, Working, GivingBoxes, Returning, Return, HartState, State}
-use Rattle.osc_machine.specs.Turns.{HartTold, Box, Kernel, Word, Gate as ToldGate, OldVersion, Done, Turn, quietly, hart_ask, hart_told, handed_box, handed_kernel, box_given, from_guest, place_on, kernel_taken, in_call, as_before, found_words, MovesLeft, StillAt, AllDone, moves_left, clears_by, box_gone, kernel_gone}
+use Rattle.osc_machine.specs.Parts.{Gate, Outside, TakingBoxes, FirstWord, SecondWord, Working, GivingBoxes, Returning, Return, HartState, State}
+use Rattle.osc_machine.specs.Turns.{HartTold, Box, Kernel, Word, Gate as ToldGate, OldVersion, Done, Turn, quietly, hart_ask, hart_told, handed_box, handed_kernel, box_given, from_guest, place_on, kernel_taken, in_call, as_before, found_words, StillAt, AllDone, moves_left, clears_by, box_gone, kernel_gone}
 use Rattle.osc_machine.specs.Step.{Stepped, step, stays, tells, box_at, with_box, is_shut, is_wanted, with_gate}
 
 -- ---- the hart
@@ -32,7 +32,7 @@ pub data Turned (h : HartState) (t : HartTold) (turn : Turn) : Type 0 where
   TakesLastBox : (box : ℕ) (state : BoxState) (k : KernelState) → h.place ≡ TakingBoxes box → h.kernel ≡ Some k → t ≡ Box state
       → (box + 1 == h.count) ≡ true
       → turn ≡ in_call true (plan (found_words 0 0) k) (place_on (plan (found_words 0 0) k).kernel (slice_set h.boxes box (Some state)))
-          (record h { boxes = slice_set h.boxes box (Some state) })
+      (record h { boxes = slice_set h.boxes box (Some state) })
       → Turned h t turn
   FindsFirst : (first second : WordAt) (word : ℕ) (k : KernelState) → h.place ≡ FirstWord first second → h.kernel ≡ Some k → t ≡ Word word
       → turn ≡ quietly (record h { place = SecondWord word second }) → Turned h t turn

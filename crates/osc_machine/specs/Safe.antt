@@ -2,7 +2,7 @@
 -- waits does so too or stays in its object's block, a report of such an access tells whose page it was and
 -- which call ended it, and no page is granted twice. A moment of a run is the number of picks done. This
 -- project's own.
-use Rattle.std.specs.Prelude.{ℕ, ◌+◌, ◌-◌, ◌/◌, ◌%◌, ◌≡◌, ◌≢◌, ◌<◌, ◌≤◌, ◌⊎◌, Bool, true, false, Option, Some, None, List, [], ◌∷◌, ◌++◌, length, slice_get, take, IsSome, option_map, pos, ◌-ℤ◌}
+use Rattle.std.specs.Prelude.{ℕ, ◌+◌, ◌-◌, ◌/◌, ◌%◌, ◌≡◌, ◌≤◌, ◌⊎◌, Bool, true, false, Option, Some, None, List, [], ◌∷◌, ◌++◌, length, slice_get, take, IsSome, option_map, pos, ◌-ℤ◌}
 use Rattle.std.specs.List.{Contains}
 use Rattle.std.specs.Option.{option_map_or, option_and_then}
 use Rattle.osc_word.specs.declared.steps.Access.{Access}
@@ -27,7 +27,7 @@ use Rattle.osc_machine.specs.declared.HartAsk.{HartAsk}
 use Rattle.osc_machine.specs.declared.HartAsk.TheVariants.{Load, Store, OpenGate}
 use Rattle.osc_machine.specs.Parts.{HartState, State}
 use Rattle.osc_machine.specs.Turns.{hart_ask}
-use Rattle.osc_machine.specs.Step.{Stepped, stays, step}
+use Rattle.osc_machine.specs.Step.{step}
 use Rattle.osc_machine.specs.Run.{at, run}
 use Rattle.osc_machine.specs.Views.{kernel_of, output_of, reports_of, journal_of}
 use Rattle.osc_machine.specs.DeadPages.{Shadow, Grave, Past, past_after, shadow, grave_in, is_page_of, shadow_at, dead_at, waiting_at}
@@ -174,7 +174,7 @@ pub record Safe (start : State) (picks : List ℕ) : Type 0 where
   pub reported : (i cause address : ℕ) (report : Report) (grave : Grave) → Reports start picks i report
       → report.fault ≡ fault.Access cause address
       → (dead_at (trace_at start picks i) report.pid (address / 4096) ≡ Some grave)
-          ⊎ (waiting_at (trace_at start picks i) report.pid (address / 4096) ≡ Some grave)
+      ⊎ (waiting_at (trace_at start picks i) report.pid (address / 4096) ≡ Some grave)
       → NamesGrave (state_at start picks (i + 1)) report address grave
   -- the labels before a grant grant none of its pages
   pub fresh : (place page : ℕ) (label : Label) (grant : Grant) → slice_get (run start picks).trace place ≡ Some label
@@ -182,4 +182,4 @@ pub record Safe (start : State) (picks : List ℕ) : Type 0 where
       → shadow_at (take place (run start picks).trace) grant.pid page ≡ None
   pub waits : (i : ℕ) (t : TouchesWaiting start picks i)
       → ((t.done ≡ false) × InstructionChangesNothing start picks t.hart i)
-          ⊎ ReachesBlock start picks i t.hart t.pid t.address t.grave.shadow.object
+      ⊎ ReachesBlock start picks i t.hart t.pid t.address t.grave.shadow.object
