@@ -165,7 +165,7 @@ returning_asks h return e = ap (λ p. place_ask p h) e
 
 hand_of_row : (h : HartState) (t : HartTold) (turn : Turn) (a : HartAsk) → HandAgrees h → hart_ask h ≡ a → IsPlainAsk a → IsPlain t → Turned h t turn → Hand h.kernel turn.hart
 hand_of_row h t turn a g e p q (Unmoved i) = rw i (record { follows = follows_self h.kernel; agrees = g })
-hand_of_row h t turn a g e p q (InGuest said pl i) = rw i (record { follows = follows_self h.kernel; agrees = g })
+hand_of_row h t turn a g e p q (InGuest said pl he i) = rw i (record { follows = follows_self h.kernel; agrees = g })
 hand_of_row h t turn a g e p q (TakesKernel k asked pl tk wa i) = absurd (subst IsPlain tk q)
 hand_of_row h t turn a g e p q (TakesBox box state k pl ke tk last i) = rw i (hand_to h.kernel k k _ ke (Same refl) refl refl)
 hand_of_row h t turn a g e p q (TakesLastBox box state k pl ke tk last i) =
@@ -175,8 +175,8 @@ hand_of_row h t turn a g e p q (FindsFirst first second word k pl ke tk i) = rw 
 hand_of_row h t turn a g e p q (FindsSecond found word second k pl ke tk i) =
     rw i (hand_to h.kernel k (plan (found_words found word) k).kernel _ ke (Plans (found_words found word) refl) refl
     (on_in_call (plan (found_words found word) k).kernel h.boxes))
-hand_of_row h t turn a g e p q (Works moves left read now word k pl ke pr i) = rw i (hand_to h.kernel k k _ ke (Same refl) refl refl)
-hand_of_row h t turn a g e p q (EndsJob moves read word k pl ke pr i) =
+hand_of_row h t turn a g e p q (Works moves left read now word k pl ke wo pr i) = rw i (hand_to h.kernel k k _ ke (Same refl) refl refl)
+hand_of_row h t turn a g e p q (EndsJob moves read word k pl ke wo pr i) =
     rw i (hand_to h.kernel k (job_done word k).kernel _ ke (Ends word refl) refl (on_in_call (job_done word k).kernel h.boxes))
 hand_of_row h t turn a g e p q (GivesBox box k pl ke tk i) = rw i (hand_to h.kernel k k _ ke (Same refl) refl (on_in_call k (slice_set h.boxes box None)))
 hand_of_row h t turn a g e p q (GivesKernel return pl tk i) = absurd (subst IsPlainAsk (sym e ∙ returning_asks h return pl) p)

@@ -8,6 +8,7 @@ use Rattle.osc_paging.specs.Boxes.{BoxState}
 use Rattle.osc_guest.specs.declared.places.Ask.TheVariants as guest
 use Rattle.osc_guest.specs.Asks.{ask}
 use Rattle.osc_guest.specs.Told.{Told, told}
+use Rattle.osc_guest.specs.Told as heard
 use Rattle.osc_calls.specs.Kernel.{KernelState}
 use Rattle.osc_calls.specs.Moves.{Move}
 use Rattle.osc_calls.specs.Plan.{plan}
@@ -19,10 +20,24 @@ use Rattle.osc_machine.specs.Turns.{HartTold, Box, Kernel, Word, Gate as ToldGat
 use Rattle.osc_machine.specs.Step.{Stepped, step, stays, tells, box_at, with_box, is_shut, is_wanted, with_gate}
 
 -- ---- the hart
+-- what the guest part hears of an answer; it never hears of the kernel
+abbrev pub guest_hears : HartTold → Option Told
+guest_hears (Box box) = Some (heard.Box box)
+guest_hears (Word word) = Some (heard.Word word)
+guest_hears (ToldGate version) = Some (heard.Gate version)
+guest_hears OldVersion = Some heard.OldVersion
+guest_hears Done = Some heard.Done
+guest_hears _ = None
+
+-- the word that an answer brings, 0 where it brings none
+abbrev pub word_told : HartTold → ℕ
+word_told (Word word) = word
+word_told _ = 0
+
 -- what a hart makes of an answer
 pub data Turned (h : HartState) (t : HartTold) (turn : Turn) : Type 0 where
   Unmoved : turn ≡ quietly h → Turned h t turn
-  InGuest : (said : Told) → h.place ≡ Outside → turn ≡ from_guest h (told h.user said) → Turned h t turn
+  InGuest : (said : Told) → h.place ≡ Outside → guest_hears t ≡ Some said → turn ≡ from_guest h (told h.user said) → Turned h t turn
   TakesKernel : (k : KernelState) (asked : Request) → h.place ≡ Outside → t ≡ Kernel k → ask h.user ≡ guest.Kernel asked
       → turn ≡ kernel_taken (guest.Kernel asked) k h → Turned h t turn
   TakesBox : (box : ℕ) (state : BoxState) (k : KernelState) → h.place ≡ TakingBoxes box → h.kernel ≡ Some k → t ≡ Box state
@@ -40,11 +55,11 @@ pub data Turned (h : HartState) (t : HartTold) (turn : Turn) : Type 0 where
       → turn ≡ in_call true (plan (found_words found word) k) (place_on (plan (found_words found word) k).kernel h.boxes) h
       → Turned h t turn
   Works : (moves left : List Move) (read now : Option ℕ) (word : ℕ) (k : KernelState) → h.place ≡ Working moves read → h.kernel ≡ Some k
-      → moves_left moves read word ≡ StillAt left now
+      → word ≡ word_told t → moves_left moves read word ≡ StillAt left now
       → turn ≡ in_call false (as_before k) (Working left now) (record h { clears = clears_by moves k h.clears })
       → Turned h t turn
   EndsJob : (moves : List Move) (read : Option ℕ) (word : ℕ) (k : KernelState) → h.place ≡ Working moves read → h.kernel ≡ Some k
-      → moves_left moves read word ≡ AllDone
+      → word ≡ word_told t → moves_left moves read word ≡ AllDone
       → turn ≡ in_call false (job_done word k) (place_on (job_done word k).kernel h.boxes) (record h { clears = clears_by moves k h.clears })
       → Turned h t turn
   GivesBox : (box : ℕ) (k : KernelState) → h.place ≡ GivingBoxes box → h.kernel ≡ Some k → t ≡ Done → turn ≡ box_gone box k h
