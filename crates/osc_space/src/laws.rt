@@ -14,7 +14,7 @@ ghost use Rattle.osc_space.specs.RefusalLaws.{PlansGoByReasons, RefusalsKeep, Re
 ghost use Rattle.osc_space.specs.PlanLaws.{MarkNeverFalls, ClearsEachBox, FreesWait, BatchesOfOneFlush, ReallocsFlush, FlushesEnd, FlushGivesUp, AddressesAreFresh};
 ghost use Rattle.osc_space.specs.WordLaws.{StretchesCut, NoPieceCrosses, BlockJobsStay};
 ghost use Rattle.osc_space.specs.ForkLaws.{ForksApart, ForksCopyEach};
-ghost use Rattle.osc_space.specs.ObjectLaws.{GrantsKeep, PagesAreGrantedOnce, DeadLeavesAreDead};
+ghost use Rattle.osc_space.specs.ObjectLaws.{GrantsKeep, PagesAreGrantedOnce, LooksFindObjects, DeadLeavesAreDead};
 
 /// A plan answers the first of its reasons that holds and changes nothing then; where none holds it
 /// is done.
@@ -47,6 +47,12 @@ pub fn grants_keep()
 #[tactic(auto, using(crate::proofs::ObjectLawProofs::pages_are_granted_once))]
 pub fn pages_are_granted_once()
     ensures { PagesAreGrantedOnce }
+{}
+
+/// A look finds each object by its address and on each of its pages, gives no other, and finds none at
+/// the address 0.
+pub fn looks_find_objects()
+    ensures { LooksFindObjects }
 {}
 
 /// A leaf table is dead exactly where each page under it was granted and has no live owner.
