@@ -461,11 +461,22 @@ impl Tables {
 }
 
 #[cfg(test)]
+use crate::numbers::is_canonical;
+
+#[cfg(test)]
 impl Tables {
-    /// Whether the leaf table of a number is linked.
-    pub fn is_linked(&self, number: u64) -> bool
-        ensures { result ≡ is_some (frame_of self.now.tables 0 number) }
+    /// Whether a leaf table is linked.
+    pub fn is_linked(&self, leaf: u64) -> bool
+        ensures { result ≡ is_some (frame_of self.now.tables 0 (number_of self.now.top leaf)) }
     {
+        let number = leaf_number(leaf, self.top);
         frame_of(&self.tables, 0, number).is_some()
+    }
+
+    /// Whether `split` takes the address of a page.
+    pub fn reaches(&self, page: u64) -> bool
+        ensures { result ≡ is_canonical (levels_of self.now) page }
+    {
+        is_canonical(page, self.top)
     }
 }

@@ -24,7 +24,7 @@ fn half(top: u8) -> u64
 }
 
 /// Whether the addresses of a page are canonical.
-fn is_canonical(page: u64, top: u8) -> bool
+pub fn is_canonical(page: u64, top: u8) -> bool
     requires { IsTop top }
     ensures { result ≡ is_canonical (suc top) page }
 {
