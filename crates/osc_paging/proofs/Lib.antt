@@ -4,4 +4,5 @@ pub mod Kept
 pub mod Walked
 pub mod Needed
 pub mod TableLawProofs
+pub mod Elsewhere
 pub mod CacheLawProofs

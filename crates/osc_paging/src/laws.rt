@@ -14,6 +14,7 @@ ghost use Rattle.osc_paging.specs.TableLaws.{
   TablesStandAbove,
 };
 ghost use Rattle.osc_paging.specs.CacheLaws.{LookFindsLatest};
+ghost use Rattle.osc_paging.specs.CopyLaws.{JobsElsewhereKeep, TakingKeeps};
 
 /// Where the words of memory agree with kept tables, a walk over the words gives exactly the kept
 /// mapping, for each address and access.
@@ -46,6 +47,12 @@ pub fn mapping_takes_need()
 /// Stores in frames that are no tables keep the agreement.
 pub fn stores_elsewhere_keep()
     ensures { StoresElsewhereKeep }
+{}
+
+/// Jobs that write no table keep the agreement of its words, and so do frames that are taken.
+pub fn work_elsewhere_keeps()
+    ensures jobs { JobsElsewhereKeep }
+    ensures taking { TakingKeeps }
 {}
 
 /// A cache gives only what was filled since its last clear, and the latest at a place.
