@@ -5,4 +5,5 @@ pub mod Walked
 pub mod Needed
 pub mod TableLawProofs
 pub mod Elsewhere
+pub mod Copied
 pub mod CacheLawProofs

@@ -14,7 +14,7 @@ ghost use Rattle.osc_paging.specs.TableLaws.{
   TablesStandAbove,
 };
 ghost use Rattle.osc_paging.specs.CacheLaws.{LookFindsLatest};
-ghost use Rattle.osc_paging.specs.CopyLaws.{JobsElsewhereKeep, TakingKeeps};
+ghost use Rattle.osc_paging.specs.CopyLaws.{CopyingAgrees, JobsElsewhereKeep, TakingKeeps};
 
 /// Where the words of memory agree with kept tables, a walk over the words gives exactly the kept
 /// mapping, for each address and access.
@@ -53,6 +53,11 @@ pub fn stores_elsewhere_keep()
 pub fn work_elsewhere_keeps()
     ensures jobs { JobsElsewhereKeep }
     ensures taking { TakingKeeps }
+{}
+
+/// Once the jobs of a copy are done, the words agree with the parent's tables and with the child's.
+pub fn copying_agrees()
+    ensures { CopyingAgrees }
 {}
 
 /// A cache gives only what was filled since its last clear, and the latest at a place.

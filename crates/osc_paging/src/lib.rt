@@ -6,7 +6,7 @@
 mod laws;
 
 pub use laws::{
-    changes_keep_agreement, look_finds_latest, mapping_takes_need, stores_elsewhere_keep,
+    changes_keep_agreement, copying_agrees, look_finds_latest, mapping_takes_need, stores_elsewhere_keep,
     tables_stand_above, walk_gives_mapping, work_elsewhere_keeps,
 };
 use osc_sv39::Mapping;
