@@ -10,6 +10,8 @@ ghost use Rattle.osc_paging.specs.TableLaws.{
   GivingKeeps,
   MappingTakesNeed,
   MappingsTakeNeed,
+  MappingsMapPages,
+  NeedSplits,
   StoresElsewhereKeep,
   TablesStandAbove,
 };
@@ -38,10 +40,13 @@ pub fn tables_stand_above()
     ensures { TablesStandAbove }
 {}
 
-/// A mapping takes exactly the frames that are needed, and so do ascending mappings together.
+/// A mapping takes exactly the frames that are needed, and so do ascending mappings together. Each of
+/// these pages is then mapped as asked, and no other page changes.
 pub fn mapping_takes_need()
     ensures one { MappingTakesNeed }
     ensures many { MappingsTakeNeed }
+    ensures split { NeedSplits }
+    ensures pages { MappingsMapPages }
 {}
 
 /// Stores in frames that are no tables keep the agreement.
