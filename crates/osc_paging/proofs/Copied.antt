@@ -23,7 +23,7 @@ use Rattle.osc_paging.specs.TableChanges.{renamed, renamed_page, renamed_table}
 use Rattle.osc_paging.specs.Agree.{Apart, Agrees, ReadsAsLeaf}
 use Rattle.osc_paging.specs.CopyLaws.{IsTable, IsNoTable, WritesElsewhere, AllElsewhere, CanCopy, CopiesTable, AllCopies, CopyingAgrees}
 use Rattle.osc_paging.proofs.TableLists.{apart-found, apart-placed}
-use Rattle.osc_paging.proofs.Elsewhere.{table_copied_apart, table_copied_here, length-words_done, length-words_after, job_elsewhere, jobs_elsewhere_keep, taking_keeps}
+use Rattle.osc_paging.proofs.Elsewhere.{table_copied_apart, table_copied_here, length-words_done, length-words_after, some_piece, job_elsewhere, jobs_elsewhere_keep, taking_keeps}
 
 -- ---- lists under new names
 abbrev pub new_name : List ℕ → ℕ → ℕ
@@ -121,9 +121,6 @@ original t names p f a b e =
     let there = apart-placed (renamed names t).tables f p.level p.number b e in
     let found = some_name names (frame_of t.tables p.level p.number) f (sym (frame_of-renamed names t.tables p.level p.number) ∙ there) in
     record { was = found.0; named = found.2; place = apart-found t.tables p.level p.number found.0 a found.1 }
-
-some_piece : {A : Type 0} {x : Option A} {y : A} → x ≡ Some y → x ≢ None
-some_piece e n = let h = sym n ∙ e in cc
 
 piece_there : (x : Option Piece) → x ≢ None → (p : Piece) × (x ≡ Some p)
 piece_there None h = absurd (h refl)

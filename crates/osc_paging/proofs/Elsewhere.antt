@@ -106,7 +106,7 @@ pub jobs_elsewhere : (entries : ℕ → ℕ → ℕ) (t : KeptTables) (jobs : Li
 jobs_elsewhere entries t [] words f i w s h = refl
 jobs_elsewhere entries t (job ∷ jobs) words f i w s h = jobs_elsewhere entries t jobs (words_done entries job words) f i w.1 s h ∙ job_elsewhere entries t job words f i w.0 s h
 
-some_piece : {A : Type 0} {x : Option A} {y : A} → x ≡ Some y → x ≢ None
+pub some_piece : {A : Type 0} {x : Option A} {y : A} → x ≡ Some y → x ≢ None
 some_piece e n = let h = sym n ∙ e in cc
 
 pub jobs_elsewhere_keep : JobsElsewhereKeep

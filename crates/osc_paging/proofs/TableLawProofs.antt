@@ -29,7 +29,7 @@ piece-top (suc l) n s =
     let p : n < 512 * 512 ^ l = rw pow-succ' at s in
     piece-div l n ∙ piece-top l (n / 512) (omega arith)
 
-positive : (l : ℕ) → 0 < 512 ^ l
+pub positive : (l : ℕ) → 0 < 512 ^ l
 positive zero = omega arith
 positive (suc l) = rw pow-succ' (let h = positive l in omega arith)
 

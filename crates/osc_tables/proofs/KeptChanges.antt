@@ -2,7 +2,6 @@
 use Rattle.std.proofs.Common.{ℕ, zero, suc, ◌≡◌, ◌≢◌, ◌<◌, ◌≤◌, ◌+◌, ◌*◌, ◌^◌, ◌==◌, ltb, Bool, true, false, cond, List, [], ◌∷◌, ◌++◌, Option, Some, None, arith, refl, ap, sym, ◌∙◌, subst, add-one, drop-cons, drop, get_or, length, length-append, set, slice_get}
 use Rattle.std.specs.Prelude.{map, slice_index}
 use Rattle.std.proofs.lemmas.Bool.Decides.{nat_tests}
-use Rattle.std.proofs.Math.Nat.{pow-succ'}
 use Rattle.std.proofs.lemmas.List.{length-set}
 use Rattle.std.proofs.lemmas.List.Sums.{sum_by-cons, count_by-le-length}
 use Rattle.osc_frames.specs.Free.{IsTaken, free_count, least_free}
@@ -16,6 +15,8 @@ use Rattle.osc_paging.specs.TableChanges.{with_table, without_table, with_page, 
 use Rattle.osc_paging.proofs.WordLists.{slice_get-set}
 use Rattle.osc_paging.proofs.TableLists.{piece_of-with_table, piece_of-without_none, piece_of-push}
 use Rattle.osc_paging.proofs.Kept.{length-frames_given}
+use Rattle.osc_paging.proofs.TableLawProofs.{positive}
+use Rattle.osc_paging.proofs.Copied.{renamed_none}
 use Rattle.osc_tables.specs.Calls.{AllTaken, HasTaken, IsFresh}
 use Rattle.osc_tables.specs.Inside.{AscendFrom, PagesBelow, IsTop, ComesBefore, InOrder, LieWithin, Differ, IsKept, kept}
 use Rattle.osc_tables.proofs.TablePlaces.{order-with_table, order-without_table}
@@ -398,10 +399,6 @@ kept-nothing top room count range = record {
   apart = λ f p e. cc;
 }
 
-pub positive : (l : ℕ) → 0 < 512 ^ l
-positive zero = omega arith
-positive (suc l) = rw pow-succ' (let h = positive l in omega arith)
-
 pub kept-root : (top room count root : ℕ) → IsTop top → root < count → IsKept top [] (table_frame top 0 root ∷ []) [] room count
 kept-root top room count root range s = record {
   range = range;
@@ -440,19 +437,6 @@ gives_one ts i free d s differ taken =
     }
 
 -- ---- a copy under new names
-renamed_none : (names : List ℕ) (ts : List TableFrame) (f : ℕ) → ((g : ℕ) → piece_of ts g ≢ None → slice_index names g ≢ f) → piece_of (map (renamed_table names) ts) f ≡ None
-renamed_none names [] f h = refl
-renamed_none names (t ∷ ts) f h =
-    let here : (slice_index names t.frame == f) ≡ false = grind (arith, nat_tests, h t.frame there) in
-    rw here (renamed_none names ts f (λ g d. h g (later g d (t.frame == g))))
-  where
-    there : piece_of (t ∷ ts) t.frame ≢ None
-    there = let same : (t.frame == t.frame) ≡ true = grind (arith, nat_tests) in rw same (λ e. cc)
-
-    later : (g : ℕ) → piece_of ts g ≢ None → (b : Bool) → cond b (Some t.piece) (piece_of ts g) ≢ None
-    later g d true = λ e. cc
-    later g d false = d
-
 renamed_differ : (names : List ℕ) (ts : List TableFrame) → Differ ts → ((f g : ℕ) → piece_of ts f ≢ None → piece_of ts g ≢ None → slice_index names f ≡ slice_index names g → f ≡ g) → Differ (map (renamed_table names) ts)
 renamed_differ names [] d h = tt
 renamed_differ names (t ∷ ts) d h = (

@@ -461,9 +461,6 @@ impl Tables {
 }
 
 #[cfg(test)]
-use crate::numbers::is_canonical;
-
-#[cfg(test)]
 impl Tables {
     /// Whether a leaf table is linked.
     pub fn is_linked(&self, leaf: u64) -> bool
@@ -477,6 +474,6 @@ impl Tables {
     pub fn reaches(&self, page: u64) -> bool
         ensures { result ≡ is_canonical (levels_of self.now) page }
     {
-        is_canonical(page, self.top)
+        crate::numbers::is_canonical(page, self.top)
     }
 }

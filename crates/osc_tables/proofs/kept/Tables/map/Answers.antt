@@ -5,12 +5,12 @@ use Rattle.osc_frames.specs.Free.{free_count}
 use Rattle.osc_sv39.specs.Walk.{number_of}
 use Rattle.osc_paging.specs.KeptTables.{KeptTables, levels_of, mapping_at, need, root_of}
 use Rattle.osc_paging.specs.TableChanges.{Changed}
-use Rattle.osc_paging.proofs.TableLawProofs.{mapping_takes_need}
+use Rattle.osc_paging.proofs.TableLawProofs.{mapping_takes_need, positive}
 use Rattle.osc_paging.proofs.Needed.{map_page-top}
 use Rattle.osc_tables.specs.Calls.{changed}
 use Rattle.osc_tables.specs.Inside.{IsTop}
 use Rattle.osc_tables.proofs.Canonical.{maps_to, some_root}
-use Rattle.osc_tables.proofs.KeptChanges.{positive, unmapped_at}
+use Rattle.osc_tables.proofs.KeptChanges.{unmapped_at}
 use Rattle.osc_tables.proofs.kept.Tables.map.Goals as goal
 
 pub map_number-requires-clause-range : goal.map_number-requires-clause-range
