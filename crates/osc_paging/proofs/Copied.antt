@@ -1,5 +1,5 @@
 -- Once the jobs of a copy are done, the words agree with the child's tables.
-use Rattle.std.proofs.Common.{ℕ, zero, suc, ◌≡◌, ◌≢◌, ◌<◌, ◌≤◌, ◌==◌, ◌^◌, ◌%◌, ◌/◌, ◌+◌, ◌*◌, ◌⊎◌, inl, inr, ⊎_elim, Bool, true, false, cond, if◌then◌else◌, ◌&&◌, IsTrue, List, [], ◌∷◌, Option, Some, None, arith, refl, ap, sym, ◌∙◌, subst, length, get_or}
+use Rattle.std.proofs.Common.{ℕ, zero, suc, ◌≡◌, ◌≢◌, ◌<◌, ◌≤◌, ◌==◌, ◌^◌, ◌%◌, ◌/◌, ◌+◌, ◌*◌, ◌⊎◌, inl, inr, ⊎_elim, Bool, true, false, cond, if◌then◌else◌, ◌&&◌, IsTrue, List, [], ◌∷◌, Option, Some, None, arith, refl, ap, sym, ◌∙◌, subst, length}
 use Rattle.std.specs.Prelude.{map, not, option_map, slice_get, slice_index, Contains}
 use Rattle.std.proofs.lemmas.Bool.Decides.{nat_tests}
 use Rattle.std.proofs.lemmas.Option.{slice_get_within}
@@ -7,7 +7,6 @@ use Rattle.osc_word.specs.declared.job_list.Job.{Job}
 use Rattle.osc_word.specs.declared.job_list.Job.TheVariants.{CopyTable}
 use Rattle.osc_sv39.specs.declared.flags.PteBits.{PteBits}
 use Rattle.osc_sv39.specs.declared.entries.Mapping.{Mapping}
-use Rattle.osc_sv39.specs.declared.entries.PteEntry.{PteEntry}
 use Rattle.osc_sv39.specs.declared.entries.PteEntry.TheVariants.{Absent, Table, Leaf, Reserved}
 use Rattle.osc_sv39.specs.Entries.{word_of, entry_of, is_valid, is_pointer, is_reserved, is_in_range}
 use Rattle.osc_sv39.specs.ReadBack.{is_leaf}
@@ -20,8 +19,8 @@ use Rattle.osc_paging.specs.declared.Mapped.{Mapped}
 use Rattle.osc_paging.specs.JobWords.{words_done, words_after}
 use Rattle.osc_paging.specs.KeptTables.{KeptTables, mapping_at, frame_of, piece_of, is_piece, child, page_entry, link_entry, word_in}
 use Rattle.osc_paging.specs.TableChanges.{renamed, renamed_page, renamed_table}
-use Rattle.osc_paging.specs.Agree.{Apart, Agrees, ReadsAsLeaf}
-use Rattle.osc_paging.specs.CopyLaws.{IsTable, IsNoTable, WritesElsewhere, AllElsewhere, CanCopy, CopiesTable, AllCopies, CopyingAgrees}
+use Rattle.osc_paging.specs.Agree.{Apart, ReadsAsLeaf}
+use Rattle.osc_paging.specs.CopyLaws.{IsTable, WritesElsewhere, AllElsewhere, CanCopy, CopiesTable, AllCopies, CopyingAgrees}
 use Rattle.osc_paging.proofs.TableLists.{apart-found, apart-placed}
 use Rattle.osc_paging.proofs.Elsewhere.{table_copied_apart, table_copied_here, length-words_done, length-words_after, some_piece, job_elsewhere, jobs_elsewhere_keep, taking_keeps}
 
@@ -146,9 +145,9 @@ same_or_other f g = pick (f == g) refl
 stays_one : (entries : ℕ → ℕ → ℕ) (t : KeptTables) (names : List ℕ) (job : Job) (words : List ℕ) (g i c : ℕ) → CopiesTable t names job ⊎ (WritesElsewhere t job × WritesElsewhere (renamed names t) job) → IsTable (renamed names t) g → length words ≡ c * 512 → g < c → i < 512 → word_at words g i ≡ entries g i → word_at (words_done entries job words) g i ≡ entries g i
 stays_one entries t names job words g i c w h e l s was = ⊎_elim
     (λ (k : CopiesTable t names job). rw k.copies (⊎_elim
-      (λ (d : g ≡ slice_index names k.from). subst (λ x. word_at (words_done entries (CopyTable k.from x) words) g i ≡ entries g i) d (table_copied_here entries 512 g 0 c words i e l s (omega arith) (omega arith) (omega arith)))
-      (λ (d : g ≢ slice_index names k.from). table_copied_apart entries 512 (slice_index names k.from) 0 words g i s (omega arith) (inl d) ∙ was)
-      (same_or_other g (slice_index names k.from))))
+    (λ (d : g ≡ slice_index names k.from). subst (λ x. word_at (words_done entries (CopyTable k.from x) words) g i ≡ entries g i) d (table_copied_here entries 512 g 0 c words i e l s (omega arith) (omega arith) (omega arith)))
+    (λ (d : g ≢ slice_index names k.from). table_copied_apart entries 512 (slice_index names k.from) 0 words g i s (omega arith) (inl d) ∙ was)
+    (same_or_other g (slice_index names k.from))))
     (λ (k : WritesElsewhere t job × WritesElsewhere (renamed names t) job). job_elsewhere entries (renamed names t) job words g i k.1 s (inl h) ∙ was)
     w
 

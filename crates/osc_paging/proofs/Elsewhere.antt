@@ -1,5 +1,5 @@
 -- Jobs that write no table leave its words.
-use Rattle.std.proofs.Common.{ℕ, zero, suc, ◌≡◌, ◌≢◌, ◌<◌, ◌≤◌, ◌+◌, ◌*◌, ◌⊎◌, inl, inr, ⊎_elim, List, [], ◌∷◌, Option, Some, None, arith, refl, ap, sym, ◌∙◌, subst, length, set, get_or}
+use Rattle.std.proofs.Common.{ℕ, zero, suc, ◌≡◌, ◌≢◌, ◌<◌, ◌≤◌, ◌+◌, ◌*◌, ◌⊎◌, inl, inr, ⊎_elim, List, [], ◌∷◌, Option, Some, None, arith, refl, ap, sym, ◌∙◌, subst, length, get_or}
 use Rattle.std.proofs.lemmas.Bool.Decides.{nat_tests}
 use Rattle.std.proofs.lemmas.List.{length-set}
 use Rattle.osc_word.specs.declared.job_list.Job.{Job}
@@ -7,8 +7,8 @@ use Rattle.osc_word.specs.declared.job_list.Job.TheVariants.{PutWord, ZeroWords,
 use Rattle.osc_sv39.specs.Walk.{word_at, put_word}
 use Rattle.osc_paging.specs.JobWords.{copied, table_copied, words_done, words_after}
 use Rattle.osc_paging.specs.KeptTables.{KeptTables, piece_of}
-use Rattle.osc_paging.specs.Agree.{Agrees}
-use Rattle.osc_paging.specs.CopyLaws.{IsNoTable, IsTable, WritesElsewhere, AllElsewhere, JobsElsewhereKeep, KeepsTaken, TakingKeeps}
+use Rattle.osc_paging.specs.CopyLaws.{IsNoTable, IsTable, WritesElsewhere, AllElsewhere, JobsElsewhereKeep, TakingKeeps}
+use Rattle.osc_paging.specs.OtherLaws.{IsAnyTable}
 use Rattle.osc_paging.proofs.WordLists.{get_or-set, zeroed_at, length-zeroed}
 
 -- ---- copies of words and of tables
@@ -68,10 +68,6 @@ length-words_done entries (ToOut at first count) words = refl
 pub length-words_after : (entries : ℕ → ℕ → ℕ) (jobs : List Job) (words : List ℕ) → length (words_after entries jobs words) ≡ length words
 length-words_after entries [] words = refl
 length-words_after entries (job ∷ jobs) words = length-words_after entries jobs (words_done entries job words) ∙ length-words_done entries job words
-
--- a table's frame, or that of a leaf aside
-abbrev pub IsAnyTable : KeptTables → ℕ → Type 0
-IsAnyTable t f = IsTable t f ⊎ (piece_of t.aside f ≢ None)
 
 other_frame : (t : KeptTables) (f g : ℕ) → IsAnyTable t f → IsNoTable t g → f ≢ g
 other_frame t f g h n e = ⊎_elim

@@ -5,5 +5,6 @@ pub mod Walked
 pub mod Needed
 pub mod TableLawProofs
 pub mod Elsewhere
+pub mod Others
 pub mod Copied
 pub mod CacheLawProofs

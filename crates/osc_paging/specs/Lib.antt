@@ -5,6 +5,7 @@ pub mod Agree
 pub mod Boxes
 pub mod TableLaws
 pub mod CopyLaws
+pub mod OtherLaws
 pub mod CacheLaws
 pub use Rattle.osc_sv39.specs.Entries
 pub use Rattle.osc_sv39.specs.Walk

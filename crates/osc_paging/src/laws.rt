@@ -17,6 +17,13 @@ ghost use Rattle.osc_paging.specs.TableLaws.{
 };
 ghost use Rattle.osc_paging.specs.CacheLaws.{LookFindsLatest};
 ghost use Rattle.osc_paging.specs.CopyLaws.{CopyingAgrees, JobsElsewhereKeep, TakingKeeps};
+ghost use Rattle.osc_paging.specs.OtherLaws.{
+  MappingKeepsOthers,
+  UnmappingKeepsOthers,
+  ReclaimingKeepsOthers,
+  GivingKeepsOthers,
+  WorkElsewhereKeeps,
+};
 
 /// Where the words of memory agree with kept tables, a walk over the words gives exactly the kept
 /// mapping, for each address and access.
@@ -58,6 +65,15 @@ pub fn stores_elsewhere_keep()
 pub fn work_elsewhere_keeps()
     ensures jobs { JobsElsewhereKeep }
     ensures taking { TakingKeeps }
+    ensures after { WorkElsewhereKeeps }
+{}
+
+/// A change of one process's tables keeps what agrees with another's.
+pub fn changes_keep_others()
+    ensures mapping { MappingKeepsOthers }
+    ensures unmapping { UnmappingKeepsOthers }
+    ensures reclaiming { ReclaimingKeepsOthers }
+    ensures giving { GivingKeepsOthers }
 {}
 
 /// Once the jobs of a copy are done, the words agree with the parent's tables and with the child's.

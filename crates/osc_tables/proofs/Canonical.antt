@@ -1,5 +1,5 @@
 -- Canonical pages and their numbers.
-use Rattle.std.proofs.Common.{ℕ, suc, ◌≡◌, ◌≢◌, ◌<◌, ◌≤◌, ◌+◌, ◌-◌, ◌%◌, ◌^◌, ◌==◌, ltb, Bool, true, false, cond, List, [], ◌∷◌, Option, Some, None, IsTrue, arith, refl, sym, ◌∙◌, subst, length, get_or, ◌⊎◌, ⊎_elim}
+use Rattle.std.proofs.Common.{ℕ, suc, ◌≡◌, ◌≢◌, ◌<◌, ◌≤◌, ◌+◌, ◌-◌, ◌^◌, ◌==◌, ltb, Bool, true, false, cond, List, [], ◌∷◌, Option, Some, None, IsTrue, arith, refl, sym, ◌∙◌, subst, length, get_or, ◌⊎◌, ⊎_elim}
 use Rattle.std.specs.Prelude.{IsSome}
 use Rattle.std.proofs.lemmas.Bool.Decides.{nat_tests}
 use Rattle.osc_sv39.specs.Walk.{is_canonical, number_of}

@@ -16,11 +16,7 @@ fn half(top: u8) -> u64
     ensures whole { result * 2 ≡ 512 ^ suc top }
     ensures range { result ≤ 2 ^ 35 }
 {
-    if top == 2 {
-        1 << 26
-    } else {
-        1 << 35
-    }
+    if top == 2 { 1 << 26 } else { 1 << 35 }
 }
 
 /// Whether the addresses of a page are canonical.

@@ -180,7 +180,13 @@ fn agree(rt: &impl Abort, tables: &Tables, words: &[u64], walks: Walks)
         let found = walk(words, walks.root, page << 12 | 0x123, walks.levels);
         assert_eq!(rt; found, tables.at(page));
     }
-    for address in [0, 0x8000_0000, 0x40_0000_0000, 0x8000_0000_0000, 0x8000_0000_0000_0000] {
+    for address in [
+        0,
+        0x8000_0000,
+        0x40_0000_0000,
+        0x8000_0000_0000,
+        0x8000_0000_0000_0000,
+    ] {
         let found = walk(words, walks.root, address, walks.levels);
         assert_eq!(rt; found, tables.at(address >> 12));
     }

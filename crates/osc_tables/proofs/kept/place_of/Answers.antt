@@ -1,5 +1,5 @@
 -- A table lies within the range.
-use Rattle.std.proofs.Common.{arith, ◌≡◌, ◌^◌, ◌*◌, ◌<◌, suc}
+use Rattle.std.proofs.Common.{arith}
 use Rattle.osc_tables.proofs.KeptFacts.{range_small}
 use Rattle.osc_tables.proofs.kept.place_of.Goals as goal
 

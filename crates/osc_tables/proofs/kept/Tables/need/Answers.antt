@@ -1,5 +1,5 @@
 -- No page needs no table, and many canonical pages lie in one half.
-use Rattle.std.proofs.Common.{sym, ◌≡◌, ◌<◌, ◌≤◌, ◌^◌, suc, arith}
+use Rattle.std.proofs.Common.{sym, ◌<◌, ◌≤◌, ◌^◌, suc, arith}
 use Rattle.osc_paging.proofs.TableLawProofs.{none_needed}
 use Rattle.osc_tables.proofs.Canonical.{one_half}
 use Rattle.osc_tables.proofs.KeptFacts.{at_top}

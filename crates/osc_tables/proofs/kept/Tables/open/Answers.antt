@@ -1,7 +1,6 @@
 -- Closed tables get their topmost one.
-use Rattle.std.proofs.Common.{◌≡◌, ◌∙◌, [], ◌∷◌, ap, arith, sym}
+use Rattle.std.proofs.Common.{◌≡◌, ◌∙◌, [], ap, arith}
 use Rattle.osc_paging.specs.KeptTables.{KeptTables}
-use Rattle.osc_paging.specs.TableChanges.{table_frame}
 use Rattle.osc_tables.proofs.KeptChanges.{kept-root}
 use Rattle.osc_tables.proofs.kept.Tables.open.Goals as goal
 
