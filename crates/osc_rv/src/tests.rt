@@ -347,6 +347,9 @@ fn listed(instr: &Instr) -> (&'static str, [u32; 5]) {
         Instr::Op { op, rd, rs1, rs2 } => {
             (reg_name(op), [rd.value(), rs1.value(), rs2.value(), 0, 0])
         }
+        Instr::Mul { op, rd, rs1, rs2 } => {
+            (mul_name(op), [rd.value(), rs1.value(), rs2.value(), 0, 0])
+        }
         Instr::Fence { bits } => ("fence", [0, 0, 0, bits.value(), 0]),
         Instr::FenceI { bits } => ("fence.i", [0, 0, 0, bits.value(), 0]),
         Instr::Ecall => ("ecall", [0; 5]),
@@ -467,6 +470,24 @@ fn reg_name(op: RegOp) -> &'static str {
         RegOp::Sllw => "sllw",
         RegOp::Srlw => "srlw",
         RegOp::Sraw => "sraw",
+    }
+}
+
+fn mul_name(op: MulOp) -> &'static str {
+    match op {
+        MulOp::Mul => "mul",
+        MulOp::Mulh => "mulh",
+        MulOp::Mulhsu => "mulhsu",
+        MulOp::Mulhu => "mulhu",
+        MulOp::Div => "div",
+        MulOp::Divu => "divu",
+        MulOp::Rem => "rem",
+        MulOp::Remu => "remu",
+        MulOp::Mulw => "mulw",
+        MulOp::Divw => "divw",
+        MulOp::Divuw => "divuw",
+        MulOp::Remw => "remw",
+        MulOp::Remuw => "remuw",
     }
 }
 
