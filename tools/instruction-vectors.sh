@@ -16,7 +16,7 @@ printf '.option norvc\n.option norelax\n' >"$work/rows.s"
 
 # row NAME RD RS1 RS2 IMMEDIATE ORDER SOURCE: fields are 0 where the instruction has none. An
 # immediate is the bits of its field, an offset without its bit 0; ORDER is 2 for aq and 1 for rl.
-# The name "none" stands for a word that RV64IA and fence.i do not have.
+# The name "none" stands for a word that RV64IMA and fence.i do not have.
 row() {
     echo "(\"$1\", [$2, $3, $4, $(($5)), $6])" >>"$work/rows"
     echo "$7" >>"$work/rows.s"
@@ -80,6 +80,11 @@ for name in add sub sll slt sltu xor srl sra or and addw subw sllw srlw sraw; do
     row $name 31 30 29 0 0 "$name x31, x30, x29"
 done
 
+for name in mul mulh mulhsu mulhu div divu rem remu mulw divw divuw remw remuw; do
+    row $name 10 11 12 0 0 "$name x10, x11, x12"
+    row $name 31 1 30 0 0 "$name x31, x1, x30"
+done
+
 row fence 0 0 0 "0x0ff << 10" 0 "fence"
 row fence 0 0 0 "0x833 << 10" 0 "fence.tso"
 row fence 0 0 0 "0x012 << 10" 0 "fence w, r"
@@ -108,10 +113,6 @@ done
 none ".half 0x0001, 0x0001" # c.nop, twice
 none ".word 0"
 none ".word -1"
-none "mul x1, x2, x3"
-none "mulw x1, x2, x3"
-none "div x1, x2, x3"
-none "remuw x1, x2, x3"
 none "flw f1, 0(x2)"
 none "fsd f1, 0(x2)"
 none "fadd.s f1, f2, f3"
@@ -142,6 +143,11 @@ none ".insn r 0x33, 0, 0x21, x1, x2, x3"
 none ".insn r 0x33, 5, 0x10, x1, x2, x3"
 none ".insn r 0x3b, 2, 0, x1, x2, x3" # no sltw
 none ".insn r 0x3b, 1, 0x20, x1, x2, x3"
+none ".insn r 0x3b, 1, 1, x1, x2, x3" # no mulhw
+none ".insn r 0x3b, 2, 1, x1, x2, x3"
+none ".insn r 0x3b, 3, 1, x1, x2, x3"
+none ".insn r 0x33, 0, 3, x1, x2, x3" # mul with a further bit
+none ".insn r 0x3b, 4, 0x21, x1, x2, x3"
 none ".insn i 0x0f, 2, x0, x0, 0" # cbo
 none ".insn r 0x2f, 2, 0x08, x1, x2, x3" # lr.w with rs2
 none ".insn r 0x2f, 3, 0x0b, x1, x2, x31"

@@ -1,5 +1,6 @@
 -- What an integer instruction does, on numbers. RISC-V Unprivileged manual, "RV32I Base Integer
--- Instruction Set" and "RV64I Base Integer Instruction Set"; the address and operand of an atomic
+-- Instruction Set" and "RV64I Base Integer Instruction Set"; products and quotients by "M Standard
+-- Extension for Integer Multiplication and Division"; the address and operand of an atomic
 -- instruction by "A Extension for Atomic Instructions". An instruction has 4 bytes, and the target of a
 -- jump has to be divisible by 4.
 use Rattle.std.specs.Prelude.{ℕ, ◌+◌, ◌-◌, ◌*◌, ◌/◌, ◌^◌, ◌%◌, ◌==◌, Bool, not, nat_lt, if◌then◌else◌, List, bit_and, bit_or, bit_xor, int_lt}
@@ -21,6 +22,7 @@ use Rattle.osc_rv.specs.declared.instr.RegOp.TheVariants.{Add, Sub, Sll, Slt, Sl
 use Rattle.osc_word.specs.Registers.{register}
 use Rattle.osc_isa.specs.declared.IntDone.{IntDone}
 use Rattle.osc_isa.specs.declared.IntDone.TheVariants as done
+use Rattle.osc_isa.specs.Multiply.{muldiv}
 use Rattle.osc_isa.specs.Numbers.{wrapped, extended, word, signed, signed_shift, one_if}
 
 -- the address of the instruction after the one at pc
@@ -136,6 +138,7 @@ done_of (instr.Shift op rd rs1 amount) regs pc =
 done_of (instr.ShiftW op rd rs1 amount) regs pc =
     done.Set rd (operate (op_of_shift_w op) (register regs rs1) amount) (next pc)
 done_of (instr.Op op rd rs1 rs2) regs pc = done.Set rd (operate op (register regs rs1) (register regs rs2)) (next pc)
+done_of (instr.Mul op rd rs1 rs2) regs pc = done.Set rd (muldiv op (register regs rs1) (register regs rs2)) (next pc)
 done_of (instr.Fence bits) regs pc = done.Go (next pc)
 done_of (instr.FenceI bits) regs pc = done.Go (next pc)
 done_of instr.Ecall regs pc = done.Call

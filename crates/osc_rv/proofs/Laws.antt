@@ -4,9 +4,9 @@ use Rattle.std.specs.List.{find}
 use Rattle.std.specs.Option.{option_map, option_and_then, option_or}
 use Rattle.std.proofs.lemmas.Bool.{cond_both, eqb-true, and_parts}
 use Rattle.osc_rv.specs.Bits.{bits}
-use Rattle.osc_rv.specs.Codes.{upper_opcode, branch_funct3, branch_kinds, load_funct3, load_kinds, store_funct3, store_kinds, imm_opcode, imm_funct3, imm_ops, shift_funct3, shift_funct6, shift_ops, reg_opcode, reg_funct3, reg_funct7, reg_ops, amo_funct5, amo_ops, width_funct3, widths}
+use Rattle.osc_rv.specs.Codes.{upper_opcode, branch_funct3, branch_kinds, load_funct3, load_kinds, store_funct3, store_kinds, imm_opcode, imm_funct3, imm_ops, shift_funct3, shift_funct6, shift_ops, reg_opcode, reg_funct3, reg_funct7, reg_ops, muldiv_funct7, mul_opcode, mul_funct3, mul_ops, amo_funct5, amo_ops, width_funct3, widths}
 use Rattle.osc_rv.specs.Formats.{s_imm, b_half}
-use Rattle.osc_rv.specs.Instr.{instr_of, word_of, FieldsFit, branch_of, load_of, store_of, imm_of, shift_of, shift_w_of, reg_of, fence_of, atomic_of, aq_of, rl_of}
+use Rattle.osc_rv.specs.Instr.{instr_of, word_of, FieldsFit, branch_of, load_of, store_of, imm_of, shift_of, shift_w_of, reg_of, mul_of, fence_of, atomic_of, aq_of, rl_of}
 use Rattle.osc_rv.specs.declared.instr.UpperOp.{UpperOp}
 use Rattle.osc_rv.specs.declared.instr.BranchKind.{BranchKind}
 use Rattle.osc_rv.specs.declared.instr.LoadKind.{LoadKind}
@@ -14,10 +14,11 @@ use Rattle.osc_rv.specs.declared.instr.StoreKind.{StoreKind}
 use Rattle.osc_rv.specs.declared.instr.ImmOp.{ImmOp}
 use Rattle.osc_rv.specs.declared.instr.ShiftOp.{ShiftOp}
 use Rattle.osc_rv.specs.declared.instr.RegOp.{RegOp}
+use Rattle.osc_rv.specs.declared.instr.MulOp.{MulOp}
 use Rattle.osc_rv.specs.declared.instr.AmoOp.{AmoOp}
 use Rattle.osc_rv.specs.declared.instr.Width.{Width}
 use Rattle.osc_rv.specs.declared.instr.Instr.{Instr}
-use Rattle.osc_rv.specs.declared.instr.Instr.TheVariants.{Upper, Jal, Jalr, Branch, Load, Store, Imm, Shift, ShiftW, Op, Fence, FenceI, Ecall, Ebreak, Amo, Lr, Sc}
+use Rattle.osc_rv.specs.declared.instr.Instr.TheVariants.{Upper, Jal, Jalr, Branch, Load, Store, Imm, Shift, ShiftW, Op, Mul, Fence, FenceI, Ecall, Ebreak, Amo, Lr, Sc}
 use Rattle.osc_rv.proofs.Runs.{bits-split, bits-join}
 use Rattle.osc_rv.proofs.Layouts.{RFields, IFields, SFields, BFields, UFields, AtomicFields, r_fields, i_fields, s_fields, b_fields, u_fields, j_fields, fence_fields, atomic_fields, r_whole, i_whole, s_whole, b_whole, u_whole, j_whole, fence_whole, atomic_whole}
 
@@ -44,6 +45,9 @@ shift_fits op = grind arith
 
 reg_fits : (op : RegOp) → (reg_opcode op < 2 ^ 7) × (reg_funct3 op < 2 ^ 3) × (reg_funct7 op < 2 ^ 7)
 reg_fits op = grind arith
+
+mul_fits : (op : MulOp) → (mul_opcode op < 2 ^ 7) × (mul_funct3 op < 2 ^ 3)
+mul_fits op = grind arith
 
 amo_fits : (op : AmoOp) → amo_funct5 op < 2 ^ 5
 amo_fits op = grind arith
@@ -102,6 +106,13 @@ unfolding instr_of
 reg_read op word rd rs1 rs2 r =
     grind (arith, r.opcode_is, r.funct3_is, r.funct7_is, r.rd_is, r.rs1_is, r.rs2_is)
 
+mul_read : (op : MulOp) (word rd rs1 rs2 : ℕ)
+    → RFields word (mul_opcode op) rd (mul_funct3 op) rs1 rs2 muldiv_funct7
+    → instr_of word ≡ Some (Mul op rd rs1 rs2)
+unfolding instr_of
+mul_read op word rd rs1 rs2 r =
+    grind (arith, r.opcode_is, r.funct3_is, r.funct7_is, r.rd_is, r.rs1_is, r.rs2_is)
+
 amo_read : (op : AmoOp) (width : Width) (word rd rs1 rs2 : ℕ) (aq rl : Bool)
     → AtomicFields word (amo_funct5 op) rd (width_funct3 width) rs1 rs2 aq rl
     → instr_of word ≡ Some (Amo op width rd rs1 rs2 aq rl)
@@ -158,6 +169,10 @@ read_back (Op op rd rs1 rs2) fit =
     let s = reg_fits op in
     reg_read op _ rd rs1 rs2
     (r_fields (reg_opcode op) rd (reg_funct3 op) rs1 rs2 (reg_funct7 op) s.0 fit.0 s.1 fit.1 fit.2 s.2)
+read_back (Mul op rd rs1 rs2) fit =
+    let s = mul_fits op in
+    mul_read op _ rd rs1 rs2
+    (r_fields (mul_opcode op) rd (mul_funct3 op) rs1 rs2 muldiv_funct7 s.0 fit.0 s.1 fit.1 fit.2 (omega arith))
 read_back (Fence free) fit =
     let r = fence_fields 0x0F 0 free (omega arith) (omega arith) fit in rw (r.opcode_is, r.funct3_is, r.free_is) refl
 read_back (FenceI free) fit =
@@ -255,6 +270,16 @@ reg_back word opcode h o =
     r_whole word (reg_opcode op) (reg_funct3 op) (reg_funct7 op) h (o ∙ sym (eqb-true _ _ inner.0))
     (eqb-true _ _ inner.1) (eqb-true _ _ outer.1))
 
+mul_back : (word opcode : ℕ) → word < 2 ^ 32 → bits 0 7 word ≡ opcode → Back word (mul_of opcode word)
+unfolding Back word_of
+mul_back word opcode h o =
+    cases word (bits 25 7 word == muldiv_funct7) _ None
+    (λ g. found word (λ op. Mul op (bits 7 5 word) (bits 15 5 word) (bits 20 5 word)) _ mul_ops (λ op e.
+    let both = and_parts _ _ e in
+    r_whole word (mul_opcode op) (mul_funct3 op) muldiv_funct7 h (o ∙ sym (eqb-true _ _ both.0))
+    (eqb-true _ _ both.1) (sym (eqb-true _ _ g))))
+    tt
+
 fence_back : (word : ℕ) → word < 2 ^ 32 → bits 0 7 word ≡ 0x0F → Back word (fence_of word)
 unfolding Back word_of
 fence_back word h o =
@@ -301,8 +326,10 @@ written_back word h =
     (λ e. or_back word _ _ (imm_back word 0x13 h (eqb-true _ _ e)) (shift_back word h (eqb-true _ _ e)))
     (cases word (opcode == 0x1B) _ _
     (λ e. or_back word _ _ (imm_back word 0x1B h (eqb-true _ _ e)) (shift_w_back word h (eqb-true _ _ e)))
-    (cases word (opcode == 0x33) _ _ (λ e. reg_back word 0x33 h (eqb-true _ _ e))
-    (cases word (opcode == 0x3B) _ _ (λ e. reg_back word 0x3B h (eqb-true _ _ e))
+    (cases word (opcode == 0x33) _ _
+    (λ e. or_back word _ _ (reg_back word 0x33 h (eqb-true _ _ e)) (mul_back word 0x33 h (eqb-true _ _ e)))
+    (cases word (opcode == 0x3B) _ _
+    (λ e. or_back word _ _ (reg_back word 0x3B h (eqb-true _ _ e)) (mul_back word 0x3B h (eqb-true _ _ e)))
     (cases word (opcode == 0x0F) _ _ (λ e. fence_back word h (eqb-true _ _ e))
     (cases word (opcode == 0x73) _ _
     (λ e. cases word (word == 0x73) _ _ (λ f. sym (eqb-true _ _ f))

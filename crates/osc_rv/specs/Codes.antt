@@ -16,6 +16,8 @@ use Rattle.osc_rv.specs.declared.instr.ShiftOp.{ShiftOp}
 use Rattle.osc_rv.specs.declared.instr.ShiftOp.TheVariants.{Left, Right, Signed}
 use Rattle.osc_rv.specs.declared.instr.RegOp.{RegOp}
 use Rattle.osc_rv.specs.declared.instr.RegOp.TheVariants.{Add, Sub, Sll, Slt, Sltu, Xor, Srl, Sra, Or, And, Addw, Subw, Sllw, Srlw, Sraw}
+use Rattle.osc_rv.specs.declared.instr.MulOp.{MulOp}
+use Rattle.osc_rv.specs.declared.instr.MulOp.TheVariants.{Mul, Mulh, Mulhsu, Mulhu, Div, Divu, Rem, Remu, Mulw, Divw, Divuw, Remw, Remuw}
 use Rattle.osc_rv.specs.declared.instr.AmoOp.{AmoOp}
 use Rattle.osc_rv.specs.declared.instr.AmoOp.TheVariants.{Add as AmoAdd, Swap as AmoSwap, Xor as AmoXor, Or as AmoOr, And as AmoAnd, Min as AmoMin, Max as AmoMax, Minu as AmoMinu, Maxu as AmoMaxu}
 use Rattle.osc_rv.specs.declared.instr.Width.{Width}
@@ -169,6 +171,46 @@ reg_ops = Add ∷ Sub ∷ Sll ∷ Slt ∷ Sltu ∷ Xor ∷ Srl ∷ Sra ∷ Or �
 
 abbrev pub reg_at : ℕ → ℕ → ℕ → Option RegOp
 reg_at opcode funct3 funct7 = find (λ op. (reg_opcode op == opcode) && (reg_funct3 op == funct3) && (reg_funct7 op == funct7)) reg_ops
+
+-- the products, quotients and remainders of opcodes OP and OP-32: funct7, opcode and funct3
+abbrev pub muldiv_funct7 : ℕ
+muldiv_funct7 = 1
+
+abbrev pub mul_opcode : MulOp → ℕ
+mul_opcode Mul = 0x33
+mul_opcode Mulh = 0x33
+mul_opcode Mulhsu = 0x33
+mul_opcode Mulhu = 0x33
+mul_opcode Div = 0x33
+mul_opcode Divu = 0x33
+mul_opcode Rem = 0x33
+mul_opcode Remu = 0x33
+mul_opcode Mulw = 0x3B
+mul_opcode Divw = 0x3B
+mul_opcode Divuw = 0x3B
+mul_opcode Remw = 0x3B
+mul_opcode Remuw = 0x3B
+
+abbrev pub mul_funct3 : MulOp → ℕ
+mul_funct3 Mul = 0
+mul_funct3 Mulh = 1
+mul_funct3 Mulhsu = 2
+mul_funct3 Mulhu = 3
+mul_funct3 Div = 4
+mul_funct3 Divu = 5
+mul_funct3 Rem = 6
+mul_funct3 Remu = 7
+mul_funct3 Mulw = 0
+mul_funct3 Divw = 4
+mul_funct3 Divuw = 5
+mul_funct3 Remw = 6
+mul_funct3 Remuw = 7
+
+abbrev pub mul_ops : List MulOp
+mul_ops = Mul ∷ Mulh ∷ Mulhsu ∷ Mulhu ∷ Div ∷ Divu ∷ Rem ∷ Remu ∷ Mulw ∷ Divw ∷ Divuw ∷ Remw ∷ Remuw ∷ []
+
+abbrev pub mul_at : ℕ → ℕ → Option MulOp
+mul_at opcode funct3 = find (λ op. (mul_opcode op == opcode) && (mul_funct3 op == funct3)) mul_ops
 
 -- opcode AMO: funct5 of those that have an operation, and funct3
 abbrev pub amo_funct5 : AmoOp → ℕ

@@ -1,13 +1,13 @@
--- The meaning of an instruction word of RV64IA with fence.i, and the word of an instruction, by the
+-- The meaning of an instruction word of RV64IMA with fence.i, and the word of an instruction, by the
 -- listings of the RISC-V Unprivileged manual ("RV32/64G Instruction Set Listings"). A word is a
 -- number below 2 ^ 32.
 use Rattle.std.specs.Prelude.{ℕ, ◌+◌, ◌*◌, ◌^◌, ◌<◌, ◌==◌, Bool, if◌then◌else◌, Option, None, Some}
 use Rattle.std.specs.Option.{option_map, option_and_then, option_or}
 use Rattle.osc_rv.specs.Bits.{bits}
-use Rattle.osc_rv.specs.Codes.{upper_opcode, branch_funct3, branch_at, load_funct3, load_at, store_funct3, store_at, imm_opcode, imm_funct3, imm_at, shift_funct3, shift_funct6, shift_at, reg_opcode, reg_funct3, reg_funct7, reg_at, amo_funct5, amo_at, width_funct3, width_at}
+use Rattle.osc_rv.specs.Codes.{upper_opcode, branch_funct3, branch_at, load_funct3, load_at, store_funct3, store_at, imm_opcode, imm_funct3, imm_at, shift_funct3, shift_funct6, shift_at, reg_opcode, reg_funct3, reg_funct7, reg_at, muldiv_funct7, mul_opcode, mul_funct3, mul_at, amo_funct5, amo_at, width_funct3, width_at}
 use Rattle.osc_rv.specs.Formats.{r_word, i_word, s_word, b_word, u_word, j_word, fence_word, s_imm, b_half, j_half, fence_bits}
 use Rattle.osc_rv.specs.declared.instr.Instr.{Instr}
-use Rattle.osc_rv.specs.declared.instr.Instr.TheVariants.{Upper, Jal, Jalr, Branch, Load, Store, Imm, Shift, ShiftW, Op, Fence, FenceI, Ecall, Ebreak, Amo, Lr, Sc}
+use Rattle.osc_rv.specs.declared.instr.Instr.TheVariants.{Upper, Jal, Jalr, Branch, Load, Store, Imm, Shift, ShiftW, Op, Mul, Fence, FenceI, Ecall, Ebreak, Amo, Lr, Sc}
 use Rattle.osc_rv.specs.declared.instr.UpperOp.{UpperOp}
 use Rattle.osc_rv.specs.declared.instr.UpperOp.TheVariants.{Lui, Auipc}
 use Rattle.osc_rv.specs.declared.instr.Width.{Width}
@@ -78,6 +78,12 @@ reg_of opcode word =
     option_map (λ op. Op op (rd_of word) (rs1_of word) (rs2_of word))
     (reg_at opcode (funct3_of word) (funct7_of word))
 
+abbrev pub mul_of : ℕ → ℕ → Option Instr
+mul_of opcode word =
+    if funct7_of word == muldiv_funct7
+    then option_map (λ op. Mul op (rd_of word) (rs1_of word) (rs2_of word)) (mul_at opcode (funct3_of word))
+    else None
+
 abbrev pub fence_of : ℕ → Option Instr
 fence_of word =
     if funct3_of word == 0 then Some (Fence (fence_bits word))
@@ -115,8 +121,8 @@ instr_of word =
     else if opcode_of word == 0x23 then store_of word
     else if opcode_of word == 0x13 then option_or (imm_of 0x13 word) (shift_of word)
     else if opcode_of word == 0x1B then option_or (imm_of 0x1B word) (shift_w_of word)
-    else if opcode_of word == 0x33 then reg_of 0x33 word
-    else if opcode_of word == 0x3B then reg_of 0x3B word
+    else if opcode_of word == 0x33 then option_or (reg_of 0x33 word) (mul_of 0x33 word)
+    else if opcode_of word == 0x3B then option_or (reg_of 0x3B word) (mul_of 0x3B word)
     else if opcode_of word == 0x0F then fence_of word
     else if opcode_of word == 0x73 then system_of word
     else if opcode_of word == 0x2F then option_and_then (atomic_of word) (width_at (funct3_of word))
@@ -141,6 +147,7 @@ word_of (Imm op rd rs1 imm) = i_word (imm_opcode op) rd (imm_funct3 op) rs1 imm
 word_of (Shift op rd rs1 amount) = i_word 0x13 rd (shift_funct3 op) rs1 (amount + shift_funct6 op * 2 ^ 6)
 word_of (ShiftW op rd rs1 amount) = i_word 0x1B rd (shift_funct3 op) rs1 (amount + shift_funct6 op * 2 ^ 6)
 word_of (Op op rd rs1 rs2) = r_word (reg_opcode op) rd (reg_funct3 op) rs1 rs2 (reg_funct7 op)
+word_of (Mul op rd rs1 rs2) = r_word (mul_opcode op) rd (mul_funct3 op) rs1 rs2 muldiv_funct7
 word_of (Fence free) = fence_word 0x0F 0 free
 word_of (FenceI free) = fence_word 0x0F 1 free
 word_of Ecall = 0x73
@@ -161,6 +168,7 @@ FieldsFit (Imm op rd rs1 imm) = (rd < 2 ^ 5) × (rs1 < 2 ^ 5) × (imm < 2 ^ 12)
 FieldsFit (Shift op rd rs1 amount) = (rd < 2 ^ 5) × (rs1 < 2 ^ 5) × (amount < 2 ^ 6)
 FieldsFit (ShiftW op rd rs1 amount) = (rd < 2 ^ 5) × (rs1 < 2 ^ 5) × (amount < 2 ^ 5)
 FieldsFit (Op op rd rs1 rs2) = (rd < 2 ^ 5) × (rs1 < 2 ^ 5) × (rs2 < 2 ^ 5)
+FieldsFit (Mul op rd rs1 rs2) = (rd < 2 ^ 5) × (rs1 < 2 ^ 5) × (rs2 < 2 ^ 5)
 FieldsFit (Fence free) = free < 2 ^ 22
 FieldsFit (FenceI free) = free < 2 ^ 22
 FieldsFit Ecall = Unit {0}

@@ -1,8 +1,8 @@
 //! The operation codes of the listings, in both directions.
 ghost use Rattle.std.specs.Prelude.{◌≡◌, ◌<◌};
-ghost use Rattle.osc_rv.specs.Codes.{upper_opcode, branch_funct3, branch_at, load_funct3, load_at, store_funct3, store_at, imm_opcode, imm_funct3, imm_at, shift_funct3, shift_funct6, shift_at, reg_opcode, reg_funct3, reg_funct7, reg_at, amo_funct5, amo_at, width_funct3, width_at};
+ghost use Rattle.osc_rv.specs.Codes.{upper_opcode, branch_funct3, branch_at, load_funct3, load_at, store_funct3, store_at, imm_opcode, imm_funct3, imm_at, shift_funct3, shift_funct6, shift_at, reg_opcode, reg_funct3, reg_funct7, reg_at, mul_opcode, mul_funct3, mul_at, amo_funct5, amo_at, width_funct3, width_at};
 
-use crate::instr::{AmoOp, BranchKind, ImmOp, LoadKind, RegOp, ShiftOp, StoreKind, UpperOp, Width};
+use crate::instr::{AmoOp, BranchKind, ImmOp, LoadKind, MulOp, RegOp, ShiftOp, StoreKind, UpperOp, Width};
 
 pub(crate) const LOAD: u32 = 0x03;
 
@@ -31,6 +31,9 @@ pub(crate) const JALR: u32 = 0x67;
 pub(crate) const JAL: u32 = 0x6F;
 
 pub(crate) const SYSTEM: u32 = 0x73;
+
+/// funct7 of every `MulOp`.
+pub(crate) const MULDIV: u32 = 1;
 
 /// funct5 of lr and sc, which are no `AmoOp`.
 pub(crate) const LR: u32 = 0b00010;
@@ -282,6 +285,60 @@ impl RegOp {
             (OP_32, 1, 0) => Some(RegOp::Sllw),
             (OP_32, 5, 0) => Some(RegOp::Srlw),
             (OP_32, 5, 0x20) => Some(RegOp::Sraw),
+            _ => None,
+        }
+    }
+}
+
+impl MulOp {
+    pub(crate) fn opcode(self) -> u32
+        ensures { result ≡ mul_opcode self }
+    {
+        match self {
+            MulOp::Mul
+            | MulOp::Mulh
+            | MulOp::Mulhsu
+            | MulOp::Mulhu
+            | MulOp::Div
+            | MulOp::Divu
+            | MulOp::Rem
+            | MulOp::Remu => OP,
+            MulOp::Mulw | MulOp::Divw | MulOp::Divuw | MulOp::Remw | MulOp::Remuw => OP_32,
+        }
+    }
+
+    pub(crate) fn funct3(self) -> u32
+        ensures { result ≡ mul_funct3 self }
+    {
+        match self {
+            MulOp::Mul | MulOp::Mulw => 0,
+            MulOp::Mulh => 1,
+            MulOp::Mulhsu => 2,
+            MulOp::Mulhu => 3,
+            MulOp::Div | MulOp::Divw => 4,
+            MulOp::Divu | MulOp::Divuw => 5,
+            MulOp::Rem | MulOp::Remw => 6,
+            MulOp::Remu | MulOp::Remuw => 7,
+        }
+    }
+
+    pub(crate) fn at(opcode: u32, funct3: u32) -> Option<MulOp>
+        ensures { result ≡ mul_at opcode funct3 }
+    {
+        match (opcode, funct3) {
+            (OP, 0) => Some(MulOp::Mul),
+            (OP, 1) => Some(MulOp::Mulh),
+            (OP, 2) => Some(MulOp::Mulhsu),
+            (OP, 3) => Some(MulOp::Mulhu),
+            (OP, 4) => Some(MulOp::Div),
+            (OP, 5) => Some(MulOp::Divu),
+            (OP, 6) => Some(MulOp::Rem),
+            (OP, 7) => Some(MulOp::Remu),
+            (OP_32, 0) => Some(MulOp::Mulw),
+            (OP_32, 4) => Some(MulOp::Divw),
+            (OP_32, 5) => Some(MulOp::Divuw),
+            (OP_32, 6) => Some(MulOp::Remw),
+            (OP_32, 7) => Some(MulOp::Remuw),
             _ => None,
         }
     }

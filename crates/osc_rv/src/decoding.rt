@@ -2,19 +2,19 @@ ghost use Rattle.std.specs.Prelude.{◌≡◌, ◌<◌, IfSome};
 ghost use Rattle.std.specs.Option.{option_or, option_and_then};
 ghost use Rattle.osc_rv.specs.Codes.{width_at};
 ghost use Rattle.osc_rv.specs.Formats.{s_imm, b_half, j_half, fence_bits};
-ghost use Rattle.osc_rv.specs.Instr.{instr_of, word_of, opcode_of, upper_of, jal_of, jalr_of, branch_of, load_of, store_of, imm_of, shift_of, shift_w_of, reg_of, fence_of, system_of, atomic_of, funct3_of};
+ghost use Rattle.osc_rv.specs.Instr.{instr_of, word_of, opcode_of, upper_of, jal_of, jalr_of, branch_of, load_of, store_of, imm_of, shift_of, shift_w_of, reg_of, mul_of, fence_of, system_of, atomic_of, funct3_of};
 
 use crate::codes::{
-    AMO, AUIPC, BRANCH, EBREAK, ECALL, JAL, JALR, LOAD, LR, LUI, MISC_MEM, OP, OP_32, OP_IMM,
-    OP_IMM_32, SC, STORE, SYSTEM,
+    AMO, AUIPC, BRANCH, EBREAK, ECALL, JAL, JALR, LOAD, LR, LUI, MISC_MEM, MULDIV, OP,
+    OP_32, OP_IMM, OP_IMM_32, SC, STORE, SYSTEM,
 };
 use crate::field::{Field, bits_of};
 use crate::instr::{
-    AmoOp, BranchKind, ImmOp, Instr, LoadKind, RegOp, ShiftOp, StoreKind, UpperOp, Width,
+    AmoOp, BranchKind, ImmOp, Instr, LoadKind, MulOp, RegOp, ShiftOp, StoreKind, UpperOp, Width,
 };
 
 /// The instruction of `word` by the RISC-V Unprivileged manual, "RV32/64G Instruction Set Listings"
-/// (RV32I, RV64I, Zifencei, RV32A, RV64A); None exactly where they have no such word. Whatever it
+/// (RV32I, RV64I, Zifencei, RV32M, RV64M, RV32A, RV64A); None exactly where they have no such word. Whatever it
 /// reads, `encode` writes back.
 pub fn decode(word: u32) -> Option<Instr>
     ensures instr { result ≡ instr_of word }
@@ -39,8 +39,8 @@ fn decode_at(opcode: u32, word: u32) -> Option<Instr>
         STORE => store(word),
         OP_IMM => imm(OP_IMM, word).or_else(|| shift(word)),
         OP_IMM_32 => imm(OP_IMM_32, word).or_else(|| shift_w(word)),
-        OP => op(OP, word),
-        OP_32 => op(OP_32, word),
+        OP => op(OP, word).or_else(|| muldiv(OP, word)),
+        OP_32 => op(OP_32, word).or_else(|| muldiv(OP_32, word)),
         MISC_MEM => fence(word),
         SYSTEM => system(word),
         AMO => atomic(Width::at(funct3(word))?, word),
@@ -160,6 +160,20 @@ fn op(opcode: u32, word: u32) -> Option<Instr>
 {
     Some(Instr::Op {
         op: RegOp::at(opcode, funct3(word), bits_of(word, 25, 7))?,
+        rd: Field::of_word(word, 7),
+        rs1: Field::of_word(word, 15),
+        rs2: Field::of_word(word, 20),
+    })
+}
+
+fn muldiv(opcode: u32, word: u32) -> Option<Instr>
+    ensures { result ≡ mul_of opcode word }
+{
+    if bits_of(word, 25, 7) != MULDIV {
+        return None;
+    }
+    Some(Instr::Mul {
+        op: MulOp::at(opcode, funct3(word))?,
         rd: Field::of_word(word, 7),
         rs1: Field::of_word(word, 15),
         rs2: Field::of_word(word, 20),

@@ -4,7 +4,7 @@ ghost use Rattle.osc_rv.specs.Formats.{r_word, i_word, s_word, b_word, u_word, j
 ghost use Rattle.osc_rv.specs.Instr.{word_of, instr_of, atomic_word, FieldsFit};
 
 use crate::codes::{
-    AMO, BRANCH, EBREAK, ECALL, JAL, JALR, LOAD, LR, MISC_MEM, OP_IMM, OP_IMM_32, SC, STORE,
+    AMO, BRANCH, EBREAK, ECALL, JAL, JALR, LOAD, LR, MISC_MEM, MULDIV, OP_IMM, OP_IMM_32, SC, STORE,
 };
 use crate::field::{Field, bits_of};
 use crate::instr::{Instr, ShiftOp, Width};
@@ -61,6 +61,9 @@ fn word(instr: &Instr) -> u32
         ),
         Instr::Op { op, rd, rs1, rs2 } => {
             format_r(op.opcode(), rd, op.funct3(), rs1, rs2, op.funct7())
+        }
+        Instr::Mul { op, rd, rs1, rs2 } => {
+            format_r(op.opcode(), rd, op.funct3(), rs1, rs2, MULDIV)
         }
         Instr::Fence { bits } => fence(MISC_MEM, 0, bits),
         Instr::FenceI { bits } => fence(MISC_MEM, 1, bits),

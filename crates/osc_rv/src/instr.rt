@@ -79,6 +79,24 @@ pub enum RegOp {
     Sraw,
 }
 
+/// The products, quotients and remainders: opcode OP, and OP-32 for those that end in `w`.
+#[derive(Clone, Copy, PartialEq, Eq, Debug)]
+pub enum MulOp {
+    Mul,
+    Mulh,
+    Mulhsu,
+    Mulhu,
+    Div,
+    Divu,
+    Rem,
+    Remu,
+    Mulw,
+    Divw,
+    Divuw,
+    Remw,
+    Remuw,
+}
+
 /// The operations that read and write a memory word in one step: amoadd and its kin.
 #[derive(Clone, Copy, PartialEq, Eq, Debug)]
 pub enum AmoOp {
@@ -100,7 +118,7 @@ pub enum Width {
     D,
 }
 
-/// An instruction of RV64IA with `fence.i`: the RISC-V Unprivileged manual, "Base Instruction
+/// An instruction of RV64IMA with `fence.i`: the RISC-V Unprivileged manual, "Base Instruction
 /// Formats" and "RV32/64G Instruction Set Listings".
 ///
 /// Immediates and offsets are the unsigned bits of their field; what an instruction does extends
@@ -160,6 +178,12 @@ pub enum Instr {
     },
     Op {
         op: RegOp,
+        rd: Field<5>,
+        rs1: Field<5>,
+        rs2: Field<5>,
+    },
+    Mul {
+        op: MulOp,
         rd: Field<5>,
         rs1: Field<5>,
         rs2: Field<5>,

@@ -1,4 +1,4 @@
-//! Instruction words of RV64IA with `fence.i`, both ways: `decode` reads a word, `encode` writes it.
+//! Instruction words of RV64IMA with `fence.i`, both ways: `decode` reads a word, `encode` writes it.
 //!
 //! `Instr` has one variant for each format and kind of the RISC-V Unprivileged manual, with its
 //! registers and immediates as `Field`s, numbers that fit their place in the word. The listings
@@ -16,7 +16,7 @@ pub use decoding::decode;
 pub use encoding::encode;
 pub use field::Field;
 pub use instr::{
-    AmoOp, BranchKind, ImmOp, Instr, LoadKind, RegOp, ShiftOp, StoreKind, UpperOp, Width,
+    AmoOp, BranchKind, ImmOp, Instr, LoadKind, MulOp, RegOp, ShiftOp, StoreKind, UpperOp, Width,
 };
 
 #[cfg(test)]

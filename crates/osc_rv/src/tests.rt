@@ -5,7 +5,7 @@ use std::test::Fail;
 
 /// A word, the name of its instruction, and its rd, rs1, rs2, immediate, and order (2 for aq and
 /// 1 for rl). The name is "none" where there is no instruction.
-static ROWS: [(u32, &str, [u32; 5]); 239] = [
+static ROWS: [(u32, &str, [u32; 5]); 266] = [
     (0x00000fb7, "lui", [31, 0, 0, 0, 0]),
     (0x00000097, "auipc", [1, 0, 0, 0, 0]),
     (0x00001fb7, "lui", [31, 0, 0, 1, 0]),
@@ -147,6 +147,32 @@ static ROWS: [(u32, &str, [u32; 5]); 239] = [
     (0x01df5fbb, "srlw", [31, 30, 29, 0, 0]),
     (0x404150bb, "sraw", [1, 2, 4, 0, 0]),
     (0x41df5fbb, "sraw", [31, 30, 29, 0, 0]),
+    (0x02c58533, "mul", [10, 11, 12, 0, 0]),
+    (0x03e08fb3, "mul", [31, 1, 30, 0, 0]),
+    (0x02c59533, "mulh", [10, 11, 12, 0, 0]),
+    (0x03e09fb3, "mulh", [31, 1, 30, 0, 0]),
+    (0x02c5a533, "mulhsu", [10, 11, 12, 0, 0]),
+    (0x03e0afb3, "mulhsu", [31, 1, 30, 0, 0]),
+    (0x02c5b533, "mulhu", [10, 11, 12, 0, 0]),
+    (0x03e0bfb3, "mulhu", [31, 1, 30, 0, 0]),
+    (0x02c5c533, "div", [10, 11, 12, 0, 0]),
+    (0x03e0cfb3, "div", [31, 1, 30, 0, 0]),
+    (0x02c5d533, "divu", [10, 11, 12, 0, 0]),
+    (0x03e0dfb3, "divu", [31, 1, 30, 0, 0]),
+    (0x02c5e533, "rem", [10, 11, 12, 0, 0]),
+    (0x03e0efb3, "rem", [31, 1, 30, 0, 0]),
+    (0x02c5f533, "remu", [10, 11, 12, 0, 0]),
+    (0x03e0ffb3, "remu", [31, 1, 30, 0, 0]),
+    (0x02c5853b, "mulw", [10, 11, 12, 0, 0]),
+    (0x03e08fbb, "mulw", [31, 1, 30, 0, 0]),
+    (0x02c5c53b, "divw", [10, 11, 12, 0, 0]),
+    (0x03e0cfbb, "divw", [31, 1, 30, 0, 0]),
+    (0x02c5d53b, "divuw", [10, 11, 12, 0, 0]),
+    (0x03e0dfbb, "divuw", [31, 1, 30, 0, 0]),
+    (0x02c5e53b, "remw", [10, 11, 12, 0, 0]),
+    (0x03e0efbb, "remw", [31, 1, 30, 0, 0]),
+    (0x02c5f53b, "remuw", [10, 11, 12, 0, 0]),
+    (0x03e0ffbb, "remuw", [31, 1, 30, 0, 0]),
     (0x0ff0000f, "fence", [0, 0, 0, 261120, 0]),
     (0x8330000f, "fence", [0, 0, 0, 2149376, 0]),
     (0x0120000f, "fence", [0, 0, 0, 18432, 0]),
@@ -204,10 +230,6 @@ static ROWS: [(u32, &str, [u32; 5]); 239] = [
     (0x00010001, "none", [0, 0, 0, 0, 0]),
     (0x00000000, "none", [0, 0, 0, 0, 0]),
     (0xffffffff, "none", [0, 0, 0, 0, 0]),
-    (0x023100b3, "none", [0, 0, 0, 0, 0]),
-    (0x023100bb, "none", [0, 0, 0, 0, 0]),
-    (0x023140b3, "none", [0, 0, 0, 0, 0]),
-    (0x023170bb, "none", [0, 0, 0, 0, 0]),
     (0x00012087, "none", [0, 0, 0, 0, 0]),
     (0x00113027, "none", [0, 0, 0, 0, 0]),
     (0x003170d3, "none", [0, 0, 0, 0, 0]),
@@ -238,6 +260,11 @@ static ROWS: [(u32, &str, [u32; 5]); 239] = [
     (0x203150b3, "none", [0, 0, 0, 0, 0]),
     (0x003120bb, "none", [0, 0, 0, 0, 0]),
     (0x403110bb, "none", [0, 0, 0, 0, 0]),
+    (0x023110bb, "none", [0, 0, 0, 0, 0]),
+    (0x023120bb, "none", [0, 0, 0, 0, 0]),
+    (0x023130bb, "none", [0, 0, 0, 0, 0]),
+    (0x063100b3, "none", [0, 0, 0, 0, 0]),
+    (0x423140bb, "none", [0, 0, 0, 0, 0]),
     (0x0000200f, "none", [0, 0, 0, 0, 0]),
     (0x103120af, "none", [0, 0, 0, 0, 0]),
     (0x17f130af, "none", [0, 0, 0, 0, 0]),
@@ -346,6 +373,9 @@ fn listed(instr: &Instr) -> (&'static str, [u32; 5]) {
         }
         Instr::Op { op, rd, rs1, rs2 } => {
             (reg_name(op), [rd.value(), rs1.value(), rs2.value(), 0, 0])
+        }
+        Instr::Mul { op, rd, rs1, rs2 } => {
+            (mul_name(op), [rd.value(), rs1.value(), rs2.value(), 0, 0])
         }
         Instr::Fence { bits } => ("fence", [0, 0, 0, bits.value(), 0]),
         Instr::FenceI { bits } => ("fence.i", [0, 0, 0, bits.value(), 0]),
@@ -467,6 +497,24 @@ fn reg_name(op: RegOp) -> &'static str {
         RegOp::Sllw => "sllw",
         RegOp::Srlw => "srlw",
         RegOp::Sraw => "sraw",
+    }
+}
+
+fn mul_name(op: MulOp) -> &'static str {
+    match op {
+        MulOp::Mul => "mul",
+        MulOp::Mulh => "mulh",
+        MulOp::Mulhsu => "mulhsu",
+        MulOp::Mulhu => "mulhu",
+        MulOp::Div => "div",
+        MulOp::Divu => "divu",
+        MulOp::Rem => "rem",
+        MulOp::Remu => "remu",
+        MulOp::Mulw => "mulw",
+        MulOp::Divw => "divw",
+        MulOp::Divuw => "divuw",
+        MulOp::Remw => "remw",
+        MulOp::Remuw => "remuw",
     }
 }
 
