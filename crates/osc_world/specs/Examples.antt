@@ -13,6 +13,7 @@ use Rattle.osc_rv.specs.declared.instr.Instr.{Instr}
 use Rattle.osc_rv.specs.declared.instr.Instr.TheVariants as instr
 use Rattle.osc_rv.specs.declared.instr.ImmOp.TheVariants.{Addi}
 use Rattle.osc_rv.specs.declared.instr.RegOp.TheVariants.{Add}
+use Rattle.osc_rv.specs.declared.instr.MulOp.TheVariants as mul_op
 use Rattle.osc_rv.specs.declared.instr.BranchKind.TheVariants.{Bne}
 use Rattle.osc_rv.specs.declared.instr.UpperOp.TheVariants.{Lui}
 use Rattle.osc_rv.specs.declared.instr.LoadKind.TheVariants.{Lb, Ld}
@@ -67,7 +68,7 @@ abbrev pub image_of_program : List Instr → Image
 image_of_program program = image_with (code_of program)
 
 abbrev pub config_of : ℕ → Config
-config_of harts = record { heap = Oscar; harts = harts; processes = 16; frames = 1024; shadows = 65536; journal = 65536 }
+config_of harts = record { heap = Oscar; harts = harts; processes = 16; frames = 1024; shadows = 65536; journal = 65536; levels = 3; batch = 1 }
 
 abbrev pub event : ℕ → Choice → Event
 event hart choice = record { hart = hart; choice = choice }
@@ -160,6 +161,14 @@ loads_after_move = mallocs 24 ++ (addi 9 8 0 ∷ addi 5 0 9 ∷ sd 5 8 0 ∷ [])
 -- malloc(24), a pointer stored in it, and a load of one byte of that
 abbrev pub loads_a_part : List Instr
 loads_a_part = mallocs 24 ++ (sd 8 8 0 ∷ ld 9 8 0 ∷ instr.Load Lb 5 8 3 ∷ [])
+
+-- 6 times 7, and exit with the product
+abbrev pub multiplies : List Instr
+multiplies = (addi 5 0 6 ∷ addi 6 0 7 ∷ instr.Mul mul_op.Mul 10 5 6 ∷ []) ++ call 1
+
+-- malloc(24), and its pointer multiplied by 7
+abbrev pub multiplies_pointer : List Instr
+multiplies_pointer = mallocs 24 ++ (addi 6 0 7 ∷ instr.Mul mul_op.Mul 5 8 6 ∷ [])
 
 -- ---- harts and processes
 

@@ -1,13 +1,15 @@
 pub use Rattle.osc_isa.specs.Integer
+pub use Rattle.osc_isa.specs.Multiply
 pub use Rattle.osc_isa.specs.Atomic
 pub use Rattle.osc_image.specs.Image
 pub use Rattle.osc_slot.specs.Heap
 pub mod Values
 pub mod States
+pub mod Deeds
+pub mod Offers
 pub mod World
 pub mod Operations
 pub mod Accesses
-pub mod Threads
 pub mod Instructions
 pub mod Calls
 pub mod Events

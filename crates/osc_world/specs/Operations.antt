@@ -1,7 +1,8 @@
 -- What an operation gives for values. Numbers are those of the RISC-V Unprivileged manual, "RV64I Base
--- Integer Instruction Set" and "A Extension for Atomic Instructions"; the rows with pointers are this
--- project's own, and there are no others. None: a pointer is used where no row allows it.
-use Rattle.std.specs.Prelude.{ℕ, ◌+◌, Bool, true, false, not, ◌&&◌, ◌==◌, nat_lt, nat_le, if◌then◌else◌, List, slice_get, Option, Some, None, bit_and}
+-- Integer Instruction Set", "M Standard Extension for Integer Multiplication and Division" and "A Extension
+-- for Atomic Instructions"; the rows with pointers are this project's own, and there are no others. None: a
+-- pointer is used where no row allows it.
+use Rattle.std.specs.Prelude.{ℕ, ◌+◌, Bool, true, false, not, ◌&&◌, ◌==◌, nat_lt, nat_le, if◌then◌else◌, List, length, slice_get, Option, Some, None, bit_and}
 use Rattle.std.specs.Option.{option_map}
 use Rattle.osc_rv.specs.declared.instr.RegOp.{RegOp}
 use Rattle.osc_rv.specs.declared.instr.RegOp.TheVariants.{Add, Sub, Sltu}
@@ -9,12 +10,14 @@ use Rattle.osc_rv.specs.declared.instr.ImmOp.{ImmOp}
 use Rattle.osc_rv.specs.declared.instr.ImmOp.TheVariants.{Addi, Sltiu, Andi}
 use Rattle.osc_rv.specs.declared.instr.BranchKind.{BranchKind}
 use Rattle.osc_rv.specs.declared.instr.BranchKind.TheVariants.{Beq, Bne, Bltu, Bgeu}
+use Rattle.osc_rv.specs.declared.instr.MulOp.{MulOp}
 use Rattle.osc_rv.specs.declared.instr.AmoOp.{AmoOp}
 use Rattle.osc_rv.specs.declared.instr.AmoOp.TheVariants.{Swap}
 use Rattle.osc_rv.specs.declared.instr.Width.{Width}
 use Rattle.osc_rv.specs.declared.instr.Width.TheVariants.{D}
 use Rattle.osc_isa.specs.Numbers.{wrapped, one_if}
 use Rattle.osc_isa.specs.Integer.{operate, op_of_imm, is_taken}
+use Rattle.osc_isa.specs.Multiply.{muldiv}
 use Rattle.osc_isa.specs.Atomic.{amo_of}
 use Rattle.osc_world.specs.declared.Value.{Value}
 use Rattle.osc_world.specs.declared.Value.TheVariants.{Num, Ptr}
@@ -25,9 +28,9 @@ is_offset_of offset None = false
 is_offset_of offset (Some object) = nat_le offset (size_of object)
 
 abbrev pub is_offset_of_live : ℕ → Option Object → Bool
-is_offset_of_live offset None = false
-is_offset_of_live offset (Some (Live bytes)) = nat_le offset (size_of (Live bytes))
+is_offset_of_live offset (Some (Live bytes)) = nat_le offset (length bytes)
 is_offset_of_live offset (Some (Dead size)) = false
+is_offset_of_live offset None = false
 
 -- the offset is from 0 to the object's size, whether it lives or not
 abbrev pub is_within : List Object → ℕ → ℕ → Bool
@@ -75,6 +78,11 @@ operated_imm objects Addi (Ptr o k) imm = Some (Ptr o (wrapped (k + imm)))
 operated_imm objects Andi (Ptr o k) imm = only_if (nat_lt imm 16) (Num (bit_and k imm))
 operated_imm objects Sltiu (Ptr o k) imm = only_if (imm == 1 && is_within objects o k) (number_if false)
 operated_imm objects _ _ _ = None
+
+-- what a multiplication or division gives: numbers alone
+abbrev pub multiplied : MulOp → Value → Value → Option Value
+multiplied op (Num a) (Num b) = Some (Num (muldiv op a b))
+multiplied op _ _ = None
 
 -- whether a branch is taken
 abbrev pub is_taken_for : List Object → BranchKind → Value → Value → Option Bool

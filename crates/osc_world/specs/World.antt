@@ -4,7 +4,11 @@ use Rattle.std.specs.Prelude.{ℕ, List, length}
 use Rattle.osc_sv39.specs.declared.flags.PteBits.{PteBits}
 use Rattle.osc_world.specs.declared.Value.{Value}
 use Rattle.osc_world.specs.declared.Byte.{Byte}
+use Rattle.osc_world.specs.declared.Place.{Place}
+use Rattle.osc_world.specs.declared.ObjectWhy.{ObjectWhy}
 use Rattle.osc_world.specs.States.{State, Turn}
+use Rattle.osc_world.specs.Deeds.{Put, Step, Deed}
+use Rattle.osc_world.specs.Offers.{Offer}
 
 -- an object has a size as long as there are pointers to it, and bytes as long as it lives
 pub data Object : Type 0 where
@@ -27,6 +31,18 @@ World = State Value Byte Memory
 abbrev pub WorldTurn : Type 0
 WorldTurn = Turn Value Byte Memory
 
+abbrev pub WorldPut : Type 0
+WorldPut = Put Byte Place
+
+abbrev pub WorldStep : Type 0
+WorldStep = Step Value Byte Place
+
+abbrev pub WorldDeed : Type 0
+WorldDeed = Deed Value Byte Memory Place
+
+abbrev pub WorldOffer : Type 0
+WorldOffer = Offer WorldDeed ObjectWhy
+
 abbrev pub size_of : Object → ℕ
 size_of (Live bytes) = length bytes
 size_of (Dead size) = size
@@ -34,3 +50,7 @@ size_of (Dead size) = size
 -- the object after its end
 abbrev pub killed : Object → Object
 killed object = Dead (size_of object)
+
+-- the permissions R and W
+abbrev pub read_write : PteBits
+read_write = record { 0 = 6 }
