@@ -14,13 +14,13 @@ use Rattle.osc_world.specs.declared.ObjectWhy.{ObjectWhy}
 use Rattle.osc_world.specs.declared.ObjectWhy.TheVariants.{PointerBytes}
 use Rattle.osc_world.specs.Values.{numbers_in, advanced}
 use Rattle.osc_world.specs.States.{turn_of}
-use Rattle.osc_world.specs.Deeds.{Deed, Steps, Keeps, Writes, Shares, Forks, Spawns, Exits, Leaves, Step, put_if, after}
+use Rattle.osc_world.specs.Deeds.{Deed, Steps, Keeps, Writes, Shares, Forks, Spawns, Exits, Leaves, Step, put_if, state_after}
 use Rattle.osc_world.specs.Offers.{Meaning, Goes, Errs, Unfit, then_try, chosen, write_count}
 use Rattle.osc_world.specs.World.{World, WorldTurn, WorldDeed, WorldOffer, WorldPut}
-use Rattle.osc_world.specs.Accesses.{reached, row_at, before, byte_at, bytes_at, area_bytes, put_in_world, world_kind}
+use Rattle.osc_world.specs.Accesses.{reached_place, row_at, before, loaded_byte, bytes_at, area_bytes, put_in_world, world_kind}
 use Rattle.osc_world.specs.Instructions.{register_of}
-use Rattle.osc_world.specs.Calls.{writes}
-use Rattle.osc_world.specs.Events.{offered, does_if, meant, meant_by, meaning, meaning_in, instr_at}
+use Rattle.osc_world.specs.Calls.{write_deed}
+use Rattle.osc_world.specs.Events.{offered, does_if, meaning_of, meaning_by, meaning, meaning_in, instr_at}
 use Rattle.osc_world.specs.Run.{ObjectRun, judged, judged_as, judged_on, object_run}
 use Rattle.osc_world.proofs.Table.{rows, OfMeaning, OfResult, OfDeed, IsNoWrite, WritesMeet, chosen-of, step-of, conditional-of, calls-of}
 
@@ -51,8 +51,8 @@ unfolding put_in_world
 put-output turn None = refl
 put-output turn (Some put) = refl
 
-after-fits : (turn : WorldTurn) (deed : WorldDeed) → length turn.state.output ≤ output_limit → Fits (length turn.state.output) deed → length (after world_kind turn deed).output ≤ output_limit
-unfolding after Fits
+after-fits : (turn : WorldTurn) (deed : WorldDeed) → length turn.state.output ≤ output_limit → Fits (length turn.state.output) deed → length (state_after world_kind turn deed).output ≤ output_limit
+unfolding state_after Fits
 after-fits turn (Writes bytes) l f = rw (length-append turn.state.output bytes) f
 after-fits turn (Steps step) l f = rw (put-output turn step.put) l
 after-fits turn (Keeps memory value) l f = l
@@ -74,9 +74,9 @@ before-length n (Err why) rest f r = tt
 before-length n (Ok bytes) (Err why) f r = tt
 before-length n (Ok bytes) (Ok more) f r = let e = length-append bytes more in omega arith
 
-byte_at-length : (turn : WorldTurn) (address : Value) → OfBytes 1 (byte_at turn address)
+byte_at-length : (turn : WorldTurn) (address : Value) → OfBytes 1 (loaded_byte turn address)
 unfolding OfBytes
-byte_at-length turn address = by (reached turn.process access.Load 1 address)
+byte_at-length turn address = by (reached_place turn.process access.Load 1 address)
   where
     by : (at : Result Place ObjectWhy) → OfBytes 1 (then_try at (λ at. Ok (bytes_at turn at 1)))
     by (Ok at) = short (drop at.offset (area_bytes turn.state.shared turn.process.memory at.area))
@@ -89,7 +89,7 @@ byte_at-length turn address = by (reached turn.process access.Load 1 address)
 row_at-length : (turn : WorldTurn) (count : ℕ) (address : Value) → OfBytes count (row_at turn count address)
 unfolding row_at OfBytes
 row_at-length turn zero address = omega arith
-row_at-length turn (suc count) address = before-length count (byte_at turn address) (row_at turn count (advanced address 1)) (byte_at-length turn address) (row_at-length turn count (advanced address 1))
+row_at-length turn (suc count) address = before-length count (loaded_byte turn address) (row_at turn count (advanced address 1)) (byte_at-length turn address) (row_at-length turn count (advanced address 1))
 
 numbers_in-length : (bytes : List Byte) (numbers : List ℕ) → numbers_in bytes ≡ Some numbers → length numbers ≡ length bytes
 unfolding numbers_in
@@ -122,13 +122,13 @@ offered-fits turn h = rows turn (λ i r. OfResult (Fits (length turn.state.outpu
     (calls-of (Fits (length turn.state.output)) (Unit {0}) (no-write-fits (length turn.state.output)) turn (writes-fit turn h))
     (λ width rd rs1 rs2 aq rl. conditional-of (Fits (length turn.state.output)) (Unit {0}) (no-write-fits (length turn.state.output)) tt turn width rd (register_of turn rs1) (register_of turn rs2))
 
-meant-fits : (turn : WorldTurn) → length turn.state.output ≤ output_limit → (m : Meaning WorldDeed ObjectWhy) → OfMeaning (Fits (length turn.state.output)) (Unit {0}) m → OfWorld (meant turn m)
+meant-fits : (turn : WorldTurn) → length turn.state.output ≤ output_limit → (m : Meaning WorldDeed ObjectWhy) → OfMeaning (Fits (length turn.state.output)) (Unit {0}) m → OfWorld (meaning_of turn m)
 unfolding OfMeaning OfWorld
 meant-fits turn h (Goes deed) f = after-fits turn deed h f
 meant-fits turn h (Errs why) f = tt
 meant-fits turn h Unfit f = tt
 
-by-fits : (turn : WorldTurn) (c : Choice) → length turn.state.output ≤ output_limit → (r : Result WorldOffer ObjectWhy) → OfResult (Fits (length turn.state.output)) (Unit {0}) r → OfWorld (meant_by turn c r)
+by-fits : (turn : WorldTurn) (c : Choice) → length turn.state.output ≤ output_limit → (r : Result WorldOffer ObjectWhy) → OfResult (Fits (length turn.state.output)) (Unit {0}) r → OfWorld (meaning_by turn c r)
 unfolding OfResult OfWorld
 by-fits turn c h (Ok offer) f = meant-fits turn h (chosen turn.state.harts offer c) (chosen-of (Fits (length turn.state.output)) (Unit {0}) turn.state.harts offer c f)
 by-fits turn c h (Err why) f = tt

@@ -23,9 +23,9 @@ use Rattle.osc_world.specs.Deeds.{Deed, Steps, Keeps, Writes, Shares, Forks, Spa
 use Rattle.osc_world.specs.Offers.{Meaning, Goes, Errs, Unfit, Offer, Only, Grants, Starts, Conditional, Never, is_idle, chosen, answers_if, shares, thread_value, thread_at, child_value, provided, then_try}
 use Rattle.osc_world.specs.World.{World, WorldTurn, WorldStep, WorldDeed, WorldOffer, WorldPut}
 use Rattle.osc_world.specs.Accesses.{aimed, is_storable, puts, world_kind}
-use Rattle.osc_world.specs.Instructions.{register_of, objects_of, conditional, conditional_step, is_reserved, succeeds}
-use Rattle.osc_world.specs.Calls.{with_number, only_deed, with_objects, without_object, mallocs, replaces, frees, reallocs, is_live_start, writes, serves, calls}
-use Rattle.osc_world.specs.Events.{only_step, offered, meant, meant_by, does, IsNoConditional, LeavesNothingOpen}
+use Rattle.osc_world.specs.Instructions.{register_of, objects_of, conditional, conditional_step, holds_reservation, succeeds}
+use Rattle.osc_world.specs.Calls.{with_number, only_deed, keeps_objects, without_object, malloc_offer, replace_offer, free_deed, realloc_offer, is_live_start, write_deed, serves, calls}
+use Rattle.osc_world.specs.Events.{only_step, offered, meaning_of, meaning_by, does, IsNoConditional, LeavesNothingOpen}
 
 -- all instructions but calls and store-conditionals are steps that leave nothing to choose
 pub rows : (turn : WorldTurn) (P : Instr → Result WorldOffer ObjectWhy → Type 0)
@@ -139,8 +139,8 @@ pub conditional-of : (Q : WorldDeed → Type 0) (R : Type 0) → ((d : WorldDeed
 unfolding OfResult OfOffer IsNoWrite
 conditional-of Q R free err turn width rd address value = by (aimed turn access.Store (width_of width) address (is_storable (width_of width) value))
   where
-    by : (at : Result Place ObjectWhy) → OfResult Q R (then_try at (λ at. Ok (Conditional (succeeds turn rd (is_reserved turn.hart.reservation at width) (puts at (width_of width) value)) (Steps (conditional_step turn rd sc_failure)))))
-    by (Ok at) = (succeeds-of Q R free err turn rd (is_reserved turn.hart.reservation at width) (puts at (width_of width) value), free (Steps (conditional_step turn rd sc_failure)) tt)
+    by : (at : Result Place ObjectWhy) → OfResult Q R (then_try at (λ at. Ok (Conditional (succeeds turn rd (holds_reservation turn.hart.reservation at width) (puts at (width_of width) value)) (Steps (conditional_step turn rd sc_failure)))))
+    by (Ok at) = (succeeds-of Q R free err turn rd (holds_reservation turn.hart.reservation at width) (puts at (width_of width) value), free (Steps (conditional_step turn rd sc_failure)) tt)
     by (Err why) = tt
 
 number-of : (Q : WorldDeed → Type 0) (R : Type 0) (v : Value) (f : ℕ → WorldOffer) → ((n : ℕ) → OfOffer Q R (f n)) → OfResult Q R (with_number v f)
@@ -163,17 +163,17 @@ unfolding OfDeed
 deed-of Q true why deed h = h
 deed-of Q false why deed h = tt
 
-frees-of : (Q : WorldDeed → Type 0) → ((d : WorldDeed) → IsNoWrite d → Q d) → (turn : WorldTurn) (p : Value) → OfDeed Q (frees turn p)
+frees-of : (Q : WorldDeed → Type 0) → ((d : WorldDeed) → IsNoWrite d → Q d) → (turn : WorldTurn) (p : Value) → OfDeed Q (free_deed turn p)
 unfolding IsNoWrite
 frees-of Q free turn (Num n) = deed-of Q (n == 0) BadFree (answers turn (Num 0)) (free (answers turn (Num 0)) tt)
 frees-of Q free turn (Ptr o k) =
-    let dead : WorldDeed = with_objects turn (without_object (objects_of turn) o) (Num 0) in
+    let dead : WorldDeed = keeps_objects turn (without_object (objects_of turn) o) (Num 0) in
     deed-of Q (is_live_start k (slice_get (objects_of turn) o)) BadFree dead (free dead tt)
 
-reallocs-of : (Q : WorldDeed → Type 0) (R : Type 0) → ((d : WorldDeed) → IsNoWrite d → Q d) → (turn : WorldTurn) (p size : Value) → OfResult Q R (reallocs turn p size)
+reallocs-of : (Q : WorldDeed → Type 0) (R : Type 0) → ((d : WorldDeed) → IsNoWrite d → Q d) → (turn : WorldTurn) (p size : Value) → OfResult Q R (realloc_offer turn p size)
 unfolding OfOffer OfMeaning IsNoWrite
-reallocs-of Q R free turn (Num n) size = provided-of Q R (n == 0) BadFree (with_number size (mallocs turn)) (number-of Q R size (mallocs turn) (λ m. (free _ tt, free _ tt)))
-reallocs-of Q R free turn (Ptr o k) size = provided-of Q R (is_live_start k (slice_get (objects_of turn) o)) BadFree (with_number size (replaces turn o)) (number-of Q R size (replaces turn o) (λ m. (free _ tt, free _ tt)))
+reallocs-of Q R free turn (Num n) size = provided-of Q R (n == 0) BadFree (with_number size (malloc_offer turn)) (number-of Q R size (malloc_offer turn) (λ m. (free _ tt, free _ tt)))
+reallocs-of Q R free turn (Ptr o k) size = provided-of Q R (is_live_start k (slice_get (objects_of turn) o)) BadFree (with_number size (replace_offer turn o)) (number-of Q R size (replace_offer turn o) (λ m. (free _ tt, free _ tt)))
 
 answers-of : (Q : WorldDeed → Type 0) (R : Type 0) → ((d : WorldDeed) → IsNoWrite d → Q d) → (turn : WorldTurn) (value : Option Value) → OfOffer Q R (answers_if turn value)
 unfolding OfOffer IsNoWrite
@@ -189,18 +189,18 @@ shares-of Q R free count = by (nat_lt 0 count)
     by false = tt
 
 unfoldable pub WritesMeet : (Q : WorldDeed → Type 0) → WorldTurn → Type 0
-WritesMeet Q turn = (buffer : Value) (asked : ℕ) → OfDeed Q (writes turn buffer asked)
+WritesMeet Q turn = (buffer : Value) (asked : ℕ) → OfDeed Q (write_deed turn buffer asked)
 
 serves-of : (Q : WorldDeed → Type 0) (R : Type 0) → ((d : WorldDeed) → IsNoWrite d → Q d) → (turn : WorldTurn) → WritesMeet Q turn → (s : Call) → OfResult Q R (serves turn s)
 unfolding serves OfResult OfOffer OfMeaning IsNoWrite WritesMeet
 serves-of Q R free turn w (call.Exit status) = number-of Q R (register_of turn status) _ (λ n. free (Exits n) tt)
 serves-of Q R free turn w (call.Write buffer asked) = by (register_of turn asked)
   where
-    by : (v : Value) → OfResult Q R (then_try (with_number v (writes turn (register_of turn buffer))) only_deed)
-    by (Num n) = only-of Q R (writes turn (register_of turn buffer) n) (w (register_of turn buffer) n)
+    by : (v : Value) → OfResult Q R (then_try (with_number v (write_deed turn (register_of turn buffer))) only_deed)
+    by (Num n) = only-of Q R (write_deed turn (register_of turn buffer) n) (w (register_of turn buffer) n)
     by (Ptr o k) = tt
-serves-of Q R free turn w (call.Malloc size) = number-of Q R (register_of turn size) (mallocs turn) (λ m. (free _ tt, free _ tt))
-serves-of Q R free turn w (call.Free p) = only-of Q R (frees turn (register_of turn p)) (frees-of Q free turn (register_of turn p))
+serves-of Q R free turn w (call.Malloc size) = number-of Q R (register_of turn size) (malloc_offer turn) (λ m. (free _ tt, free _ tt))
+serves-of Q R free turn w (call.Free p) = only-of Q R (free_deed turn (register_of turn p)) (frees-of Q free turn (register_of turn p))
 serves-of Q R free turn w (call.Realloc p size) = reallocs-of Q R free turn (register_of turn p) (register_of turn size)
 serves-of Q R free turn w call.Fork = ((λ h. free (Forks h) tt), free _ tt)
 serves-of Q R free turn w (call.Spawn pc sp arg) = number-of Q R (register_of turn pc) _ (λ n. ((λ h. free (Spawns h n _ _) tt), free _ tt))
@@ -231,15 +231,15 @@ any-writes (Err why) = tt
 
 no-error : (turn : WorldTurn) (i : Instr) → IsNoConditional i → OfResult any-deed ⊥ (offered turn i)
 unfolding any-deed WritesMeet
-no-error turn = rows turn (λ i r. IsNoConditional i → OfResult any-deed ⊥ r) (λ i r h. step-of any-deed ⊥ (λ d n. tt) r) (λ h. calls-of any-deed ⊥ (λ d n. tt) turn (λ b a. any-writes (writes turn b a))) (λ width rd rs1 rs2 aq rl h. absurd h)
+no-error turn = rows turn (λ i r. IsNoConditional i → OfResult any-deed ⊥ r) (λ i r h. step-of any-deed ⊥ (λ d n. tt) r) (λ h. calls-of any-deed ⊥ (λ d n. tt) turn (λ b a. any-writes (write_deed turn b a))) (λ width rd rs1 rs2 aq rl h. absurd h)
 
-meant-never : (turn : WorldTurn) (m : Meaning WorldDeed ObjectWhy) (why : ObjectWhy) → OfMeaning any-deed ⊥ m → meant turn m ≡ Errs why → ⊥
+meant-never : (turn : WorldTurn) (m : Meaning WorldDeed ObjectWhy) (why : ObjectWhy) → OfMeaning any-deed ⊥ m → meaning_of turn m ≡ Errs why → ⊥
 unfolding OfMeaning
 meant-never turn (Goes deed) why h e = cc
 meant-never turn (Errs w) why h e = h
 meant-never turn Unfit why h e = cc
 
-by-errs : (turn : WorldTurn) (r : Result WorldOffer ObjectWhy) (c d : Choice) (why : ObjectWhy) → OfResult any-deed ⊥ r → meant_by turn c r ≡ Errs why → meant_by turn d r ≡ Errs why
+by-errs : (turn : WorldTurn) (r : Result WorldOffer ObjectWhy) (c d : Choice) (why : ObjectWhy) → OfResult any-deed ⊥ r → meaning_by turn c r ≡ Errs why → meaning_by turn d r ≡ Errs why
 unfolding OfResult
 by-errs turn (Err w) c d why h e = e
 by-errs turn (Ok offer) c d why h e = absurd (meant-never turn (chosen turn.state.harts offer c) why (chosen-of any-deed ⊥ turn.state.harts offer c h) e)
@@ -247,7 +247,7 @@ by-errs turn (Ok offer) c d why h e = absurd (meant-never turn (chosen turn.stat
 pub does-errs : (turn : WorldTurn) (i : Instr) (c d : Choice) (why : ObjectWhy) → IsNoConditional i → does turn c i ≡ Errs why → does turn d i ≡ Errs why
 does-errs turn i c d why h e = by-errs turn (offered turn i) c d why (no-error turn i h) e
 
-step-goes : (turn : WorldTurn) (c : Choice) (r : Result WorldStep ObjectWhy) (next : World) → meant_by turn c (only_step r) ≡ Goes next → c ≡ choice.Plain
+step-goes : (turn : WorldTurn) (c : Choice) (r : Result WorldStep ObjectWhy) (next : World) → meaning_by turn c (only_step r) ≡ Goes next → c ≡ choice.Plain
 unfolding chosen
 step-goes turn c (Err w) next e = absurd (cc)
 step-goes turn choice.Plain (Ok step) next e = refl
@@ -258,4 +258,4 @@ step-goes turn choice.Success (Ok step) next e = absurd (cc)
 step-goes turn choice.Fail (Ok step) next e = absurd (cc)
 
 pub goes-plainly : (turn : WorldTurn) (i : Instr) (c : Choice) (next : World) → LeavesNothingOpen i → does turn c i ≡ Goes next → c ≡ choice.Plain
-goes-plainly turn i c next = rows turn (λ i r. LeavesNothingOpen i → meant_by turn c r ≡ Goes next → c ≡ choice.Plain) (λ i r h e. step-goes turn c r next e) (λ h e. absurd h) (λ width rd rs1 rs2 aq rl h e. absurd h) i
+goes-plainly turn i c next = rows turn (λ i r. LeavesNothingOpen i → meaning_by turn c r ≡ Goes next → c ≡ choice.Plain) (λ i r h e. step-goes turn c r next e) (λ h e. absurd h) (λ width rd rs1 rs2 aq rl h e. absurd h) i

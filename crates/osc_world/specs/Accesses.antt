@@ -16,7 +16,7 @@ use Rattle.osc_world.specs.declared.Area.{Area}
 use Rattle.osc_world.specs.declared.Area.TheVariants as area
 use Rattle.osc_world.specs.declared.Place.{Place}
 use Rattle.osc_world.specs.declared.Reservation.{Reservation}
-use Rattle.osc_world.specs.Values.{advanced, is_pointer, gather, spread}
+use Rattle.osc_world.specs.Values.{advanced, is_pointer_value, gather, spread}
 use Rattle.osc_world.specs.States.{Process, Hart, changed_at, shared_page_at}
 use Rattle.osc_world.specs.Deeds.{Kind, with_memory}
 use Rattle.osc_world.specs.Offers.{then_try, provided}
@@ -24,26 +24,26 @@ use Rattle.osc_world.specs.World.{World, WorldTurn, WorldPut, Memory, Object, Li
 
 -- ---- where an access begins
 
-abbrev pub place : Area → ℕ → Place
-place area offset = record { area = area; offset = offset }
+abbrev pub in_area : Area → ℕ → Place
+in_area area offset = record { area = area; offset = offset }
 
-abbrev pub page_numbered : List Page → ℕ → Option Page
-page_numbered pages number = find (λ (page : Page). page.number == number) pages
+abbrev pub memory_page : List Page → ℕ → Option Page
+memory_page pages number = find (λ (page : Page). page.number == number) pages
 
 -- a place of numbered memory, and what it allows
-pub record Found : Type 0 where
+pub record NumberedPlace : Type 0 where
   pub place : Place
   pub bits : PteBits
 
 -- a page of image or stack, else a shared page, which is read and written
-abbrev pub found_in : Option Page → Option ℕ → ℕ → Option Found
-found_in (Some page) shared offset = Some (record { place = place (area.Page page.number) offset; bits = page.bits })
-found_in None (Some page) offset = Some (record { place = place (area.Shared page) offset; bits = read_write })
-found_in None None offset = None
+abbrev pub numbered_in : Option Page → Option ℕ → ℕ → Option NumberedPlace
+numbered_in (Some page) shared offset = Some (record { place = in_area (area.Page page.number) offset; bits = page.bits })
+numbered_in None (Some page) offset = Some (record { place = in_area (area.Shared page) offset; bits = read_write })
+numbered_in None None offset = None
 
-abbrev pub found_at : Process Memory → ℕ → Option Found
-found_at process address =
-    found_in (page_numbered process.memory.pages (address / 4096)) (shared_page_at process.shared address) (address % 4096)
+abbrev pub numbered_at : Process Memory → ℕ → Option NumberedPlace
+numbered_at process address =
+    numbered_in (memory_page process.memory.pages (address / 4096)) (shared_page_at process.shared address) (address % 4096)
 
 -- whether permissions let an access pass
 abbrev pub lets : Access → PteBits → Bool
@@ -51,21 +51,21 @@ lets Fetch bits = is_executable bits.0
 lets Load bits = is_readable bits.0
 lets Store bits = is_writable bits.0
 
-abbrev pub allowed_place : Access → Option Found → Result Place ObjectWhy
+abbrev pub allowed_place : Access → Option NumberedPlace → Result Place ObjectWhy
 allowed_place access None = Err Outside
 allowed_place access (Some found) = provided (lets access found.bits) Outside (Ok found.place)
 
 -- where an access of this width by a pointer begins: the object lives, and has all the bytes
-abbrev pub place_in : ℕ → ℕ → ℕ → Option Object → Result Place ObjectWhy
-place_in object offset width None = Err Outside
-place_in object offset width (Some (Dead size)) = Err DeadObject
-place_in object offset width (Some (Live bytes)) =
-    provided (nat_le (offset + width) (length bytes)) Outside (Ok (place (area.Object object) offset))
+abbrev pub object_place : ℕ → ℕ → ℕ → Option Object → Result Place ObjectWhy
+object_place object offset width None = Err Outside
+object_place object offset width (Some (Dead size)) = Err DeadObject
+object_place object offset width (Some (Live bytes)) =
+    provided (nat_le (offset + width) (length bytes)) Outside (Ok (in_area (area.Object object) offset))
 
 -- where an aligned access of this width begins
-unfoldable pub reached : Process Memory → Access → ℕ → Value → Result Place ObjectWhy
-reached process access width (Num address) = allowed_place access (found_at process address)
-reached process access width (Ptr object offset) = place_in object offset width (slice_get process.memory.objects object)
+unfoldable pub reached_place : Process Memory → Access → ℕ → Value → Result Place ObjectWhy
+reached_place process access width (Num address) = allowed_place access (numbered_at process address)
+reached_place process access width (Ptr object offset) = object_place object offset width (slice_get process.memory.objects object)
 
 -- whether the address, or the offset of a pointer, is divisible by the width
 abbrev pub is_aligned : ℕ → Value → Bool
@@ -76,23 +76,23 @@ is_aligned width (Ptr object offset) = offset % width == 0
 abbrev pub aimed : WorldTurn → Access → ℕ → Value → Bool → Result Place ObjectWhy
 aimed turn access width address takes_operand =
     provided (is_aligned width address) Trap
-    (provided takes_operand PointerUse (reached turn.process access width address))
+    (provided takes_operand PointerUse (reached_place turn.process access width address))
 
 -- ---- what stands there
 
-abbrev pub bytes_of_object : Option Object → List Byte
-bytes_of_object (Some (Live bytes)) = bytes
-bytes_of_object (Some (Dead size)) = []
-bytes_of_object None = []
+abbrev pub object_bytes : Option Object → List Byte
+object_bytes (Some (Live bytes)) = bytes
+object_bytes (Some (Dead size)) = []
+object_bytes None = []
 
-abbrev pub bytes_of_page : Option Page → List Byte
-bytes_of_page (Some page) = page.bytes
-bytes_of_page None = []
+abbrev pub page_bytes : Option Page → List Byte
+page_bytes (Some page) = page.bytes
+page_bytes None = []
 
 -- the bytes of an area, of a world's shared pages and a process's own memory
 abbrev pub area_bytes : List (List Byte) → Memory → Area → List Byte
-area_bytes shared memory (area.Object object) = bytes_of_object (slice_get memory.objects object)
-area_bytes shared memory (area.Page page) = bytes_of_page (page_numbered memory.pages page)
+area_bytes shared memory (area.Object object) = object_bytes (slice_get memory.objects object)
+area_bytes shared memory (area.Page page) = page_bytes (memory_page memory.pages page)
 area_bytes shared memory (area.Shared page) = unwrap_or (slice_get shared page) []
 
 abbrev pub bytes_at : WorldTurn → Place → ℕ → List Byte
@@ -174,7 +174,7 @@ is_shared_area (area.Shared page) = true
 -- the store of a value that its width takes
 abbrev pub puts : Place → ℕ → Value → Result WorldPut ObjectWhy
 puts at width value =
-    if is_pointer value && is_shared_area at.area then Err PointerShared
+    if is_pointer_value value && is_shared_area at.area then Err PointerShared
     else Ok (record { at = at; bytes = spread width value })
 
 -- whether a store of this width takes the value
@@ -185,8 +185,8 @@ is_storable width (Ptr object offset) = width == 8
 -- ---- rows of bytes
 
 -- the byte at an address that a load reaches
-abbrev pub byte_at : WorldTurn → Value → Result (List Byte) ObjectWhy
-byte_at turn address = then_try (reached turn.process Load 1 address) (λ at. Ok (bytes_at turn at 1))
+abbrev pub loaded_byte : WorldTurn → Value → Result (List Byte) ObjectWhy
+loaded_byte turn address = then_try (reached_place turn.process Load 1 address) (λ at. Ok (bytes_at turn at 1))
 
 abbrev pub before : Result (List Byte) ObjectWhy → Result (List Byte) ObjectWhy → Result (List Byte) ObjectWhy
 before first rest = then_try first (λ bytes. then_try rest (λ more. Ok (bytes ++ more)))
@@ -194,4 +194,4 @@ before first rest = then_try first (λ bytes. then_try rest (λ more. Ok (bytes 
 -- so many bytes from an address on, where a load reaches all of them
 unfoldable pub row_at : WorldTurn → ℕ → Value → Result (List Byte) ObjectWhy
 row_at turn zero address = Ok []
-row_at turn (suc count) address = before (byte_at turn address) (row_at turn count (advanced address 1))
+row_at turn (suc count) address = before (loaded_byte turn address) (row_at turn count (advanced address 1))

@@ -16,25 +16,25 @@ use Rattle.osc_world.specs.States.{changed_at}
 use Rattle.osc_world.specs.Deeds.{Keeps, Writes, Exits, Leaves, answers}
 use Rattle.osc_world.specs.Offers.{Goes, Only, Grants, then_try, provided, joins, waits, forks, spawns, shares, write_count}
 use Rattle.osc_world.specs.World.{WorldTurn, WorldDeed, WorldOffer, Object, Live, Dead, killed}
-use Rattle.osc_world.specs.Accesses.{row_at, bytes_of_object}
+use Rattle.osc_world.specs.Accesses.{row_at, object_bytes}
 use Rattle.osc_world.specs.Instructions.{register_of, objects_of}
 
 -- these are the caller's objects now, and the call has this answer
-abbrev pub with_objects : WorldTurn → List Object → Value → WorldDeed
-with_objects turn objects value = Keeps (record (turn.process.memory) { objects = objects }) value
+abbrev pub keeps_objects : WorldTurn → List Object → Value → WorldDeed
+keeps_objects turn objects value = Keeps (record (turn.process.memory) { objects = objects }) value
 
 -- a new object, to which a pointer is the answer; a refusal answers 0
-abbrev pub gives : WorldTurn → List Object → List Byte → WorldOffer
-gives turn objects bytes =
-    Grants (Goes (with_objects turn (objects ++ Live bytes ∷ []) (Ptr (length objects) 0))) (answers turn (Num 0))
+abbrev pub grants_object : WorldTurn → List Object → List Byte → WorldOffer
+grants_object turn objects bytes =
+    Grants (Goes (keeps_objects turn (objects ++ Live bytes ∷ []) (Ptr (length objects) 0))) (answers turn (Num 0))
 
 -- so many zero bytes
 abbrev pub zeros : ℕ → List Byte
 zeros count = replicate count (Number 0)
 
 -- malloc
-abbrev pub mallocs : WorldTurn → ℕ → WorldOffer
-mallocs turn size = gives turn (objects_of turn) (zeros size)
+abbrev pub malloc_offer : WorldTurn → ℕ → WorldOffer
+malloc_offer turn size = grants_object turn (objects_of turn) (zeros size)
 
 -- whether a free of this offset of an object may be
 abbrev pub is_live_start : ℕ → Option Object → Bool
@@ -47,21 +47,21 @@ abbrev pub without_object : List Object → ℕ → List Object
 without_object objects object = changed_at killed objects object
 
 -- free: of 0 it does nothing
-abbrev pub frees : WorldTurn → Value → Result WorldDeed ObjectWhy
-frees turn (Num number) = provided (number == 0) BadFree (Ok (answers turn (Num 0)))
-frees turn (Ptr object offset) =
+abbrev pub free_deed : WorldTurn → Value → Result WorldDeed ObjectWhy
+free_deed turn (Num number) = provided (number == 0) BadFree (Ok (answers turn (Num 0)))
+free_deed turn (Ptr object offset) =
     provided (is_live_start offset (slice_get (objects_of turn) object)) BadFree
-    (Ok (with_objects turn (without_object (objects_of turn) object) (Num 0)))
+    (Ok (keeps_objects turn (without_object (objects_of turn) object) (Num 0)))
 
 -- the common bytes, and zeros up to a size
 abbrev pub resized : List Byte → ℕ → List Byte
 resized bytes size = take size bytes ++ zeros (size - length bytes)
 
 -- realloc of a live object: the old one is dead, and the next one has its bytes
-abbrev pub replaces : WorldTurn → ℕ → ℕ → WorldOffer
-replaces turn object size =
-    gives turn (without_object (objects_of turn) object)
-    (resized (bytes_of_object (slice_get (objects_of turn) object)) size)
+abbrev pub replace_offer : WorldTurn → ℕ → ℕ → WorldOffer
+replace_offer turn object size =
+    grants_object turn (without_object (objects_of turn) object)
+    (resized (object_bytes (slice_get (objects_of turn) object)) size)
 
 -- what a call does whose argument has to be a number
 abbrev pub with_number : {T : Type 0} → Value → (ℕ → T) → Result T ObjectWhy
@@ -69,14 +69,14 @@ with_number (Num number) call = Ok (call number)
 with_number (Ptr object offset) call = Err BadCall
 
 -- realloc: of 0 it is malloc
-abbrev pub reallocs : WorldTurn → Value → Value → Result WorldOffer ObjectWhy
-reallocs turn (Num number) size = provided (number == 0) BadFree (with_number size (mallocs turn))
-reallocs turn (Ptr object offset) size =
-    provided (is_live_start offset (slice_get (objects_of turn) object)) BadFree (with_number size (replaces turn object))
+abbrev pub realloc_offer : WorldTurn → Value → Value → Result WorldOffer ObjectWhy
+realloc_offer turn (Num number) size = provided (number == 0) BadFree (with_number size (malloc_offer turn))
+realloc_offer turn (Ptr object offset) size =
+    provided (is_live_start offset (slice_get (objects_of turn) object)) BadFree (with_number size (replace_offer turn object))
 
 -- write: the first bytes of the buffer, as many as the output has room for
-abbrev pub writes : WorldTurn → Value → ℕ → Result WorldDeed ObjectWhy
-writes turn buffer asked =
+abbrev pub write_deed : WorldTurn → Value → ℕ → Result WorldDeed ObjectWhy
+write_deed turn buffer asked =
     then_try (row_at turn (write_count turn.state asked) buffer) (λ bytes.
     then_try (ok_or (numbers_in bytes) PointerBytes) (λ numbers.
     Ok (Writes numbers)))
@@ -90,10 +90,10 @@ only_deed (Err why) = Err why
 unfoldable pub serves : WorldTurn → Call → Result WorldOffer ObjectWhy
 serves turn (Exit status) = with_number (register_of turn status) (λ n. Only (Exits n))
 serves turn (Write buffer asked) =
-    then_try (with_number (register_of turn asked) (writes turn (register_of turn buffer))) only_deed
-serves turn (Malloc size) = with_number (register_of turn size) (mallocs turn)
-serves turn (Free pointer) = only_deed (frees turn (register_of turn pointer))
-serves turn (Realloc pointer size) = reallocs turn (register_of turn pointer) (register_of turn size)
+    then_try (with_number (register_of turn asked) (write_deed turn (register_of turn buffer))) only_deed
+serves turn (Malloc size) = with_number (register_of turn size) (malloc_offer turn)
+serves turn (Free pointer) = only_deed (free_deed turn (register_of turn pointer))
+serves turn (Realloc pointer size) = realloc_offer turn (register_of turn pointer) (register_of turn size)
 serves turn Fork = Ok (forks Num turn)
 serves turn (Spawn pc sp arg) =
     with_number (register_of turn pc) (λ n. spawns Num turn n (register_of turn sp) (register_of turn arg))

@@ -8,7 +8,7 @@ use Rattle.osc_word.specs.Environment.{answer_register}
 use Rattle.osc_isa.specs.Numbers.{wrapped}
 use Rattle.osc_isa.specs.Integer.{next}
 use Rattle.osc_world.specs.declared.Reservation.{Reservation}
-use Rattle.osc_world.specs.States.{State, Process, Hart, Thread, Turn, idle, with_value, changed_at}
+use Rattle.osc_world.specs.States.{State, Process, Hart, Thread, HartTurn, idle, with_value, changed_at}
 
 -- a store: where it begins, and its bytes
 pub record Put (B P : Type 0) : Type 0 where
@@ -38,49 +38,49 @@ pub data Deed (V B M P : Type 0) : Type 0 where
 pub record Kind (V B M P : Type 0) : Type 0 where
   pub number : ℕ → V
   pub nought : B
-  pub put : Turn V B M → Put B P → State V B M
+  pub put : HartTurn V B M → Put B P → State V B M
 
 -- ---- steps
 
 -- a register gets a value, and the hart goes on with the next instruction
-abbrev pub sets : {V B M P : Type 0} → Turn V B M → ℕ → V → Step V B P
+abbrev pub sets : {V B M P : Type 0} → HartTurn V B M → ℕ → V → Step V B P
 sets turn rd value =
     record { put = None; rd = rd; value = value; pc = next turn.hart.pc; reservation = turn.hart.reservation }
 
 -- a call is answered in a0; no reservation outlasts a call
-abbrev pub answers : {V B M P : Type 0} → Turn V B M → V → Deed V B M P
+abbrev pub answers : {V B M P : Type 0} → HartTurn V B M → V → Deed V B M P
 answers turn value = Steps (record (sets turn answer_register value) { reservation = None })
 
 -- the hart goes on with these registers at this pc, in a state that its deed left
-abbrev pub goes_on : {V B M : Type 0} → Turn V B M → State V B M → List V → ℕ → Option Reservation → State V B M
+abbrev pub goes_on : {V B M : Type 0} → HartTurn V B M → State V B M → List V → ℕ → Option Reservation → State V B M
 goes_on turn state regs pc reservation =
     record state {
       harts = slice_set state.harts turn.number (record (turn.hart) { regs = regs; pc = pc; reservation = reservation });
     }
 
-abbrev pub answered : {V B M : Type 0} → Turn V B M → State V B M → V → State V B M
-answered turn state value =
+abbrev pub with_answer : {V B M : Type 0} → HartTurn V B M → State V B M → V → State V B M
+with_answer turn state value =
     goes_on turn state (with_value turn.hart.regs answer_register value) (next turn.hart.pc) None
 
-abbrev pub put_if : {V B M P : Type 0} → Kind V B M P → Turn V B M → Option (Put B P) → State V B M
+abbrev pub put_if : {V B M P : Type 0} → Kind V B M P → HartTurn V B M → Option (Put B P) → State V B M
 put_if kind turn None = turn.state
 put_if kind turn (Some put) = kind.put turn put
 
-abbrev pub stepped : {V B M P : Type 0} → Kind V B M P → Turn V B M → Step V B P → State V B M
-stepped kind turn step =
+abbrev pub after_step : {V B M P : Type 0} → Kind V B M P → HartTurn V B M → Step V B P → State V B M
+after_step kind turn step =
     goes_on turn (put_if kind turn step.put) (with_value turn.hart.regs step.rd step.value) step.pc step.reservation
 
 -- ---- the process and its shared pages
 
-abbrev pub with_process : {V B M : Type 0} → Turn V B M → Process M → State V B M
+abbrev pub with_process : {V B M : Type 0} → HartTurn V B M → Process M → State V B M
 with_process turn process =
     record (turn.state) { processes = slice_set turn.state.processes turn.pid process }
 
-abbrev pub with_memory : {V B M : Type 0} → Turn V B M → M → State V B M
+abbrev pub with_memory : {V B M : Type 0} → HartTurn V B M → M → State V B M
 with_memory turn memory = with_process turn (record (turn.process) { memory = memory })
 
 -- so many zero pages more, which this process holds
-abbrev pub with_shared : {V B M : Type 0} → B → Turn V B M → ℕ → State V B M
+abbrev pub with_shared : {V B M : Type 0} → B → HartTurn V B M → ℕ → State V B M
 with_shared nought turn count =
     record (with_process turn (record (turn.process) { shared = turn.process.shared ++ range_with_len (length turn.state.shared) count })) {
       shared = turn.state.shared ++ replicate count (replicate 4096 nought);
@@ -104,7 +104,7 @@ abbrev pub stopped : {V : Type 0} → ℕ → Hart V → Hart V
 stopped pid hart = if runs pid hart then idle else hart
 
 -- the process ends, and every hart that ran it is idle
-abbrev pub exited : {V B M : Type 0} → Turn V B M → ℕ → State V B M
+abbrev pub exited : {V B M : Type 0} → HartTurn V B M → ℕ → State V B M
 exited turn status =
     record (with_process turn (record (turn.process) { status = Some (status % 64) })) {
       harts = map (stopped turn.pid) turn.state.harts;
@@ -120,7 +120,7 @@ abbrev pub status_after : {V : Type 0} → ℕ → Option ℕ → List (Hart V) 
 status_after pid status harts = if list_any (runs pid) harts then status else Some 0
 
 -- the hart is idle, and the value is kept
-abbrev pub done_with : {V B M : Type 0} → Turn V B M → V → State V B M
+abbrev pub done_with : {V B M : Type 0} → HartTurn V B M → V → State V B M
 done_with turn value =
     let harts = slice_set turn.state.harts turn.number idle in
     record (with_process turn (record (turn.process) { status = status_after turn.pid turn.process.status harts })) {
@@ -134,7 +134,7 @@ abbrev pub begins_on : {V B M : Type 0} → ℕ → Hart V → State V B M → S
 begins_on number hart state = record state { harts = slice_set state.harts number hart }
 
 -- the child has a copy of the parent's own memory, and the same shared pages
-abbrev pub with_child : {V B M : Type 0} → Turn V B M → State V B M
+abbrev pub with_child : {V B M : Type 0} → HartTurn V B M → State V B M
 with_child turn =
     record (turn.state) {
       processes = turn.state.processes
@@ -142,7 +142,7 @@ with_child turn =
     }
 
 -- the caller's registers, with answer 0
-abbrev pub child_hart : {V B M : Type 0} → (ℕ → V) → Turn V B M → Hart V
+abbrev pub child_hart : {V B M : Type 0} → (ℕ → V) → HartTurn V B M → Hart V
 child_hart number turn =
     record {
       process = Some (length turn.state.processes);
@@ -153,12 +153,12 @@ child_hart number turn =
     }
 
 -- one thread more, of this process
-abbrev pub with_thread : {V B M : Type 0} → Turn V B M → State V B M
+abbrev pub with_thread : {V B M : Type 0} → HartTurn V B M → State V B M
 with_thread turn =
     record (turn.state) { threads = turn.state.threads ++ record { spawner = turn.pid; value = None } ∷ [] }
 
 -- x2 is sp, a0 is the argument, and every other register is 0
-abbrev pub thread_hart : {V B M : Type 0} → (ℕ → V) → Turn V B M → ℕ → V → V → Hart V
+abbrev pub thread_hart : {V B M : Type 0} → (ℕ → V) → HartTurn V B M → ℕ → V → V → Hart V
 thread_hart number turn pc sp arg =
     record {
       process = Some turn.pid;
@@ -171,17 +171,17 @@ thread_hart number turn pc sp arg =
 -- ---- all of it
 
 -- the state after a deed
-unfoldable pub after : {V B M P : Type 0} → Kind V B M P → Turn V B M → Deed V B M P → State V B M
-after kind turn (Steps step) = stepped kind turn step
-after kind turn (Keeps memory value) = answered turn (with_memory turn memory) value
-after kind turn (Writes bytes) =
-    answered turn (record (turn.state) { output = turn.state.output ++ bytes }) (kind.number (length bytes))
-after kind turn (Shares count) =
-    answered turn (with_shared kind.nought turn count) (kind.number (shared_next turn.process))
-after kind turn (Forks hart) =
-    begins_on hart (child_hart kind.number turn) (answered turn (with_child turn) (kind.number (length turn.state.processes)))
-after kind turn (Spawns hart pc sp arg) =
+unfoldable pub state_after : {V B M P : Type 0} → Kind V B M P → HartTurn V B M → Deed V B M P → State V B M
+state_after kind turn (Steps step) = after_step kind turn step
+state_after kind turn (Keeps memory value) = with_answer turn (with_memory turn memory) value
+state_after kind turn (Writes bytes) =
+    with_answer turn (record (turn.state) { output = turn.state.output ++ bytes }) (kind.number (length bytes))
+state_after kind turn (Shares count) =
+    with_answer turn (with_shared kind.nought turn count) (kind.number (shared_next turn.process))
+state_after kind turn (Forks hart) =
+    begins_on hart (child_hart kind.number turn) (with_answer turn (with_child turn) (kind.number (length turn.state.processes)))
+state_after kind turn (Spawns hart pc sp arg) =
     begins_on hart (thread_hart kind.number turn pc sp arg)
-    (answered turn (with_thread turn) (kind.number (length turn.state.threads + 1)))
-after kind turn (Exits status) = exited turn status
-after kind turn (Leaves value) = done_with turn value
+    (with_answer turn (with_thread turn) (kind.number (length turn.state.threads + 1)))
+state_after kind turn (Exits status) = exited turn status
+state_after kind turn (Leaves value) = done_with turn value

@@ -16,7 +16,7 @@ use Rattle.osc_world.specs.declared.ObjectWhy.{ObjectWhy}
 use Rattle.osc_world.specs.declared.ObjectWhy.TheVariants.{Trap}
 use Rattle.osc_world.specs.Values.{advanced}
 use Rattle.osc_world.specs.States.{turn_of}
-use Rattle.osc_world.specs.Deeds.{Steps, sets, after}
+use Rattle.osc_world.specs.Deeds.{Steps, sets, state_after}
 use Rattle.osc_world.specs.Offers.{Meaning, Goes, Errs, Unfit, Only, chosen, then_try, provided}
 use Rattle.osc_world.specs.World.{World, WorldTurn, WorldStep, WorldDeed, WorldOffer}
 use Rattle.osc_world.specs.Operations.{operated, operated_imm, multiplied, is_taken_for}
@@ -65,19 +65,19 @@ offered turn (instr.Sc width rd rs1 rs2 aq rl) =
 
 -- ---- what a choice makes of it
 
-abbrev pub meant : WorldTurn → Meaning WorldDeed ObjectWhy → Meaning World ObjectWhy
-meant turn (Goes deed) = Goes (after world_kind turn deed)
-meant turn (Errs why) = Errs why
-meant turn Unfit = Unfit
+abbrev pub meaning_of : WorldTurn → Meaning WorldDeed ObjectWhy → Meaning World ObjectWhy
+meaning_of turn (Goes deed) = Goes (state_after world_kind turn deed)
+meaning_of turn (Errs why) = Errs why
+meaning_of turn Unfit = Unfit
 
 -- an error fits every choice
-abbrev pub meant_by : WorldTurn → Choice → Result WorldOffer ObjectWhy → Meaning World ObjectWhy
-meant_by turn c (Ok offer) = meant turn (chosen turn.state.harts offer c)
-meant_by turn c (Err why) = Errs why
+abbrev pub meaning_by : WorldTurn → Choice → Result WorldOffer ObjectWhy → Meaning World ObjectWhy
+meaning_by turn c (Ok offer) = meaning_of turn (chosen turn.state.harts offer c)
+meaning_by turn c (Err why) = Errs why
 
 -- an instruction
 abbrev pub does : WorldTurn → Choice → Instr → Meaning World ObjectWhy
-does turn c i = meant_by turn c (offered turn i)
+does turn c i = meaning_by turn c (offered turn i)
 
 -- the instruction is no store-conditional
 abbrev pub IsNoConditional : Instr → Type 0

@@ -111,9 +111,9 @@ is_width D D = true
 is_width _ _ = false
 
 -- whether the last load-reserved of the hart was here, with this width, and nothing came between
-abbrev pub is_reserved : Option Reservation → Place → Width → Bool
-is_reserved None at width = false
-is_reserved (Some reservation) at width =
+abbrev pub holds_reservation : Option Reservation → Place → Width → Bool
+holds_reservation None at width = false
+holds_reservation (Some reservation) at width =
     is_same_place reservation.place at && is_width reservation.width width
 
 -- a store-conditional leaves no reservation
@@ -132,5 +132,5 @@ abbrev pub conditional : WorldTurn → Width → ℕ → Value → Value → Res
 conditional turn width rd address value =
     then_try (aimed turn access.Store (width_of width) address (is_storable (width_of width) value)) (λ at.
     Ok (Conditional
-    (succeeds turn rd (is_reserved turn.hart.reservation at width) (puts at (width_of width) value))
+    (succeeds turn rd (holds_reservation turn.hart.reservation at width) (puts at (width_of width) value))
     (Steps (conditional_step turn rd sc_failure))))

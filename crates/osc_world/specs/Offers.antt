@@ -6,7 +6,7 @@ use Rattle.std.specs.Option.{option_map}
 use Rattle.osc_word.specs.declared.steps.Choice.{Choice}
 use Rattle.osc_word.specs.declared.steps.Choice.TheVariants as choice
 use Rattle.osc_word.specs.Environment.{minus_one, output_limit}
-use Rattle.osc_world.specs.States.{State, Process, Hart, Thread, Turn}
+use Rattle.osc_world.specs.States.{State, Process, Hart, Thread, HartTurn}
 use Rattle.osc_world.specs.Deeds.{Deed, Shares, Forks, Spawns, is_number, answers}
 
 -- what an event means: it goes on with something, or errs, or is nothing, since it does not fit
@@ -52,7 +52,7 @@ provided test why continue = if test then continue else Err why
 -- ---- calls of both runs; `number` gives the value of a number
 
 -- join and wait: the answer, once there is one
-abbrev pub answers_if : {V B M P E : Type 0} → Turn V B M → Option V → Offer (Deed V B M P) E
+abbrev pub answers_if : {V B M P E : Type 0} → HartTurn V B M → Option V → Offer (Deed V B M P) E
 answers_if turn None = Never
 answers_if turn (Some value) = Only (answers turn value)
 
@@ -65,7 +65,7 @@ thread_value number pid None = Some (number minus_one)
 thread_value number pid (Some thread) = if thread.spawner == pid then thread.value else Some (number minus_one)
 
 -- join: the value of a thread that this process spawned
-abbrev pub joins : {V B M P E : Type 0} → (ℕ → V) → Turn V B M → ℕ → Offer (Deed V B M P) E
+abbrev pub joins : {V B M P E : Type 0} → (ℕ → V) → HartTurn V B M → ℕ → Offer (Deed V B M P) E
 joins number turn thread = answers_if turn (thread_value number turn.pid (thread_at turn.state.threads thread))
 
 abbrev pub child_value : {V M : Type 0} → (ℕ → V) → ℕ → Option (Process M) → Option V
@@ -74,13 +74,13 @@ child_value number pid (Some process) =
     if is_number process.parent pid then option_map number process.status else Some (number minus_one)
 
 -- wait: the status of a child of this process
-abbrev pub waits : {V B M P E : Type 0} → (ℕ → V) → Turn V B M → ℕ → Offer (Deed V B M P) E
+abbrev pub waits : {V B M P E : Type 0} → (ℕ → V) → HartTurn V B M → ℕ → Offer (Deed V B M P) E
 waits number turn child = answers_if turn (child_value number turn.pid (slice_get turn.state.processes child))
 
-abbrev pub forks : {V B M P E : Type 0} → (ℕ → V) → Turn V B M → Offer (Deed V B M P) E
+abbrev pub forks : {V B M P E : Type 0} → (ℕ → V) → HartTurn V B M → Offer (Deed V B M P) E
 forks number turn = Starts (λ hart. Forks hart) (answers turn (number minus_one))
 
-abbrev pub spawns : {V B M P E : Type 0} → (ℕ → V) → Turn V B M → ℕ → V → V → Offer (Deed V B M P) E
+abbrev pub spawns : {V B M P E : Type 0} → (ℕ → V) → HartTurn V B M → ℕ → V → V → Offer (Deed V B M P) E
 spawns number turn pc sp arg = Starts (λ hart. Spawns hart pc sp arg) (answers turn (number minus_one))
 
 -- share: no pages are never given

@@ -13,7 +13,7 @@ use Rattle.osc_rv.specs.Instr.{instr_of}
 use Rattle.osc_rv.specs.declared.instr.Instr.{Instr}
 use Rattle.osc_image.specs.Image.{Image, laid_byte}
 use Rattle.osc_world.specs.States.{turn_of, first_state}
-use Rattle.osc_world.specs.Deeds.{after}
+use Rattle.osc_world.specs.Deeds.{state_after}
 use Rattle.osc_world.specs.Offers.{Meaning, Goes, Errs, Unfit, Only, Grants, Starts, Conditional, Never, chosen}
 use Rattle.osc_world.specs.PlainWorld.{Flat, Want, Plain, PlainTurn, PlainDeed, PlainOffer, plain_number, plain_kind, plain_offered}
 
@@ -26,7 +26,7 @@ plain_chosen turn c offer = chosen turn.state.harts offer c
 
 -- None: stuck
 abbrev pub plain_done : PlainTurn → Meaning PlainDeed Want → Option Plain
-plain_done turn (Goes deed) = Some (after plain_kind turn deed)
+plain_done turn (Goes deed) = Some (state_after plain_kind turn deed)
 plain_done turn (Errs want) = None
 plain_done turn Unfit = Some turn.state
 

@@ -22,7 +22,7 @@ use Rattle.osc_isa.specs.Numbers.{wrapped}
 use Rattle.osc_isa.specs.Integer.{done_of, loaded, load_width}
 use Rattle.osc_isa.specs.Atomic.{width_of, widened, amo_of, sc_success, sc_failure}
 use Rattle.osc_isa.specs.Traps.{Trap, trap_of}
-use Rattle.osc_world.specs.States.{State, Turn, changed_at, shared_page_at}
+use Rattle.osc_world.specs.States.{State, HartTurn, changed_at, shared_page_at}
 use Rattle.osc_world.specs.Deeds.{Put, Step, Deed, Kind, Steps, Keeps, Writes, Exits, Leaves, sets, answers, with_memory}
 use Rattle.osc_world.specs.Offers.{Meaning, Goes, Errs, Offer, Only, Grants, Conditional, Never, joins, waits, forks, spawns, shares, write_count}
 use Rattle.osc_world.specs.Accesses.{overlaid}
@@ -46,7 +46,7 @@ abbrev pub Plain : Type 0
 Plain = State ℕ ℕ Flat
 
 abbrev pub PlainTurn : Type 0
-PlainTurn = Turn ℕ ℕ Flat
+PlainTurn = HartTurn ℕ ℕ Flat
 
 abbrev pub PlainStep : Type 0
 PlainStep = Step ℕ ℕ ℕ
@@ -59,13 +59,13 @@ PlainOffer = Offer PlainDeed Want
 
 -- ---- memory
 
-abbrev pub byte_in : List (List ℕ) → (ℕ → ℕ) → ℕ → Option ℕ → ℕ
-byte_in pages bytes address None = bytes address
-byte_in pages bytes address (Some page) = slice_index (unwrap_or (slice_get pages page) []) (address % 4096)
+abbrev pub shared_or_own_byte : List (List ℕ) → (ℕ → ℕ) → ℕ → Option ℕ → ℕ
+shared_or_own_byte pages bytes address None = bytes address
+shared_or_own_byte pages bytes address (Some page) = slice_index (unwrap_or (slice_get pages page) []) (address % 4096)
 
 abbrev pub plain_byte : PlainTurn → ℕ → ℕ
 plain_byte turn address =
-    byte_in turn.state.shared turn.process.memory.bytes address (shared_page_at turn.process.shared address)
+    shared_or_own_byte turn.state.shared turn.process.memory.bytes address (shared_page_at turn.process.shared address)
 
 -- so many bytes from an address on
 unfoldable pub plain_row : PlainTurn → ℕ → ℕ → List ℕ
@@ -77,14 +77,14 @@ abbrev pub plain_number : PlainTurn → ℕ → ℕ → ℕ
 plain_number turn width address = little_number width (plain_row turn width address)
 
 -- a map with these bytes from an address on
-abbrev pub laid : (ℕ → ℕ) → ℕ → List ℕ → ℕ → ℕ
-laid bytes start others address =
+abbrev pub with_bytes : (ℕ → ℕ) → ℕ → List ℕ → ℕ → ℕ
+with_bytes bytes start others address =
     if nat_le start address && nat_lt address (start + length others) then slice_index others (address - start)
     else bytes address
 
 abbrev pub put_by : PlainTurn → ℕ → List ℕ → Option ℕ → Plain
 put_by turn start others None =
-    with_memory turn (record (turn.process.memory) { bytes = laid turn.process.memory.bytes start others })
+    with_memory turn (record (turn.process.memory) { bytes = with_bytes turn.process.memory.bytes start others })
 put_by turn start others (Some page) =
     record (turn.state) { shared = changed_at (λ bytes. overlaid bytes (start % 4096) others) turn.state.shared page }
 
@@ -129,10 +129,10 @@ atomic_width _ = 1
 -- ---- the heap
 
 -- a user address is given for a size, with these bytes, and is the answer
-abbrev pub placed : Flat → List Block → ℕ → ℕ → List ℕ → PlainDeed
-placed flat held user size bytes =
+abbrev pub grants_block : Flat → List Block → ℕ → ℕ → List ℕ → PlainDeed
+grants_block flat held user size bytes =
     Keeps (record flat {
-      bytes = laid flat.bytes user bytes;
+      bytes = with_bytes flat.bytes user bytes;
       held = held;
       sizes = (λ other. if other == user then size else flat.sizes other);
       given = flat.given ++ user ∷ [];
@@ -148,8 +148,8 @@ abbrev pub next_start : Flat → ℕ → Option ℕ
 next_start flat size = least_start flat.frames flat.held (room_of size)
 
 -- the held blocks with one more, for a size
-abbrev pub holding : Flat → ℕ → ℕ → List Block
-holding flat start size = with_block (record { start = start; room = room_of size }) flat.held
+abbrev pub held_with : Flat → ℕ → ℕ → List Block
+held_with flat start size = with_block (record { start = start; room = room_of size }) flat.held
 
 abbrev pub target : Flat → Block → ℕ → Option Target
 target flat block size =
@@ -157,20 +157,20 @@ target flat block size =
 
 -- a move is malloc, copy and free
 abbrev pub replaced : Flat → Block → ℕ → ℕ → List ℕ → Target → PlainDeed
-replaced flat block user size bytes Stays = placed flat flat.held user size bytes
+replaced flat block user size bytes Stays = grants_block flat flat.held user size bytes
 replaced flat block user size bytes (Moves start) =
-    placed flat (without_block block (holding flat start size)) (start + 16) size bytes
+    grants_block flat (without_block block (held_with flat start size)) (start + 16) size bytes
 
 abbrev pub unless_stuck : Option PlainDeed → Meaning PlainDeed Want
 unless_stuck None = Errs NoSlot
 unless_stuck (Some deed) = Goes deed
 
 abbrev pub malloced : Flat → ℕ → ℕ → PlainDeed
-malloced flat size start = placed flat (holding flat start size) (start + 16) size (replicate size 0)
+malloced flat size start = grants_block flat (held_with flat start size) (start + 16) size (replicate size 0)
 
 -- malloc
-abbrev pub plain_mallocs : PlainTurn → Flat → ℕ → PlainOffer
-plain_mallocs turn flat size =
+abbrev pub plain_malloc : PlainTurn → Flat → ℕ → PlainOffer
+plain_malloc turn flat size =
     Grants (unless_stuck (option_map (malloced flat size) (next_start flat size))) (answers turn 0)
 
 -- free: the slot is given back at once
@@ -185,17 +185,17 @@ plain_resized turn user size =
     plain_row turn common user ++ replicate (size - common) 0
 
 -- realloc of a held block
-abbrev pub plain_replaces : PlainTurn → Flat → ℕ → ℕ → Option Block → PlainOffer
-plain_replaces turn flat user size None = Never
-plain_replaces turn flat user size (Some block) =
+abbrev pub plain_replace : PlainTurn → Flat → ℕ → ℕ → Option Block → PlainOffer
+plain_replace turn flat user size None = Never
+plain_replace turn flat user size (Some block) =
     Grants
     (unless_stuck (option_map (replaced flat block user size (plain_resized turn user size)) (target flat block size)))
     (answers turn 0)
 
-abbrev pub plain_reallocs : PlainTurn → Flat → ℕ → ℕ → PlainOffer
-plain_reallocs turn flat user size =
-    if user == 0 then plain_mallocs turn flat size
-    else plain_replaces turn flat user size (block_of_user flat.held user)
+abbrev pub plain_realloc : PlainTurn → Flat → ℕ → ℕ → PlainOffer
+plain_realloc turn flat user size =
+    if user == 0 then plain_malloc turn flat size
+    else plain_replace turn flat user size (block_of_user flat.held user)
 
 -- ---- calls and instructions
 
@@ -208,10 +208,10 @@ plain_shares turn count =
 unfoldable pub plain_serves : PlainTurn → Call → PlainOffer
 plain_serves turn (calls.Exit status) = Only (Exits status)
 plain_serves turn (calls.Write buffer asked) = Only (Writes (plain_row turn (write_count turn.state asked) buffer))
-plain_serves turn (calls.Malloc size) = plain_mallocs turn turn.process.memory size
+plain_serves turn (calls.Malloc size) = plain_malloc turn turn.process.memory size
 plain_serves turn (calls.Free user) =
     Only (Keeps (released turn.process.memory (block_of_user turn.process.memory.held user)) 0)
-plain_serves turn (calls.Realloc user size) = plain_reallocs turn turn.process.memory user size
+plain_serves turn (calls.Realloc user size) = plain_realloc turn turn.process.memory user size
 plain_serves turn calls.Fork = forks (λ n. n) turn
 plain_serves turn (calls.Spawn pc sp arg) = spawns (λ n. n) turn pc sp arg
 plain_serves turn (calls.Join thread) = joins (λ n. n) turn thread

@@ -58,8 +58,8 @@ page_bits None = record { 0 = 0 }
 page_bits (Some bits) = bits
 
 -- a page of the image
-abbrev pub image_page : Image → ℕ → Page
-image_page image number =
+abbrev pub page_of_image : Image → ℕ → Page
+page_of_image image number =
     record {
       number = number;
       bits = page_bits (bits_at image number);
@@ -74,7 +74,7 @@ zero_page number = record { number = number; bits = read_write; bytes = replicat
 abbrev pub memory_with : Image → List ℕ → Memory
 memory_with image numbers =
     record {
-      pages = map (image_page image) numbers ++ map zero_page (range_with_len first_stack_page stack_size);
+      pages = map (page_of_image image) numbers ++ map zero_page (range_with_len first_stack_page stack_size);
       objects = [];
     }
 

@@ -33,23 +33,23 @@ pub record State (V B M : Type 0) : Type 0 where
   pub threads : List (Thread V)
 
 -- one event under way: the state, the hart with its number, and its process with its number
-pub record Turn (V B M : Type 0) : Type 0 where
+pub record HartTurn (V B M : Type 0) : Type 0 where
   pub state : State V B M
   pub number : ℕ
   pub hart : Hart V
   pub pid : ℕ
   pub process : Process M
 
-abbrev pub turn_in : {V B M : Type 0} → State V B M → ℕ → Hart V → ℕ → Option (Turn V B M)
+abbrev pub turn_in : {V B M : Type 0} → State V B M → ℕ → Hart V → ℕ → Option (HartTurn V B M)
 turn_in state number hart pid =
     option_map (λ process. record { state = state; number = number; hart = hart; pid = pid; process = process })
     (slice_get state.processes pid)
 
-abbrev pub turn_on : {V B M : Type 0} → State V B M → ℕ → Hart V → Option (Turn V B M)
+abbrev pub turn_on : {V B M : Type 0} → State V B M → ℕ → Hart V → Option (HartTurn V B M)
 turn_on state number hart = option_and_then (turn_in state number hart) hart.process
 
 -- the turn of a hart; None where it runs no thread
-abbrev pub turn_of : {V B M : Type 0} → State V B M → ℕ → Option (Turn V B M)
+abbrev pub turn_of : {V B M : Type 0} → State V B M → ℕ → Option (HartTurn V B M)
 turn_of state number = option_and_then (turn_on state number) (slice_get state.harts number)
 
 -- a list with the element of an index changed
@@ -75,8 +75,8 @@ abbrev pub idle : {V : Type 0} → Hart V
 idle = record { process = None; thread = None; regs = []; pc = 0; reservation = None }
 
 -- the first thread, of process 0: x2 is the end of the stack, and every other register is 0
-abbrev pub first_hart : {V : Type 0} → (ℕ → V) → ℕ → Hart V
-first_hart number entry =
+abbrev pub boot_hart : {V : Type 0} → (ℕ → V) → ℕ → Hart V
+boot_hart number entry =
     record {
       process = Some 0;
       thread = None;
@@ -92,7 +92,7 @@ first_state number memory entry others =
       output = [];
       shared = [];
       processes = record { memory = memory; shared = []; parent = None; status = None } ∷ [];
-      harts = first_hart number entry ∷ replicate others idle;
+      harts = boot_hart number entry ∷ replicate others idle;
       threads = [];
     }
 

@@ -15,9 +15,9 @@ abbrev pub advanced : Value → ℕ → Value
 advanced (Num number) by = Num (wrapped (number + by))
 advanced (Ptr object offset) by = Ptr object (wrapped (offset + by))
 
-abbrev pub is_pointer : Value → Bool
-is_pointer (Num number) = false
-is_pointer (Ptr object offset) = true
+abbrev pub is_pointer_value : Value → Bool
+is_pointer_value (Num number) = false
+is_pointer_value (Ptr object offset) = true
 
 -- the eight parts of a pointer
 abbrev pub parts : ℕ → ℕ → List Byte

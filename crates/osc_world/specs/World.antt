@@ -6,7 +6,7 @@ use Rattle.osc_world.specs.declared.Value.{Value}
 use Rattle.osc_world.specs.declared.Byte.{Byte}
 use Rattle.osc_world.specs.declared.Place.{Place}
 use Rattle.osc_world.specs.declared.ObjectWhy.{ObjectWhy}
-use Rattle.osc_world.specs.States.{State, Turn}
+use Rattle.osc_world.specs.States.{State, HartTurn}
 use Rattle.osc_world.specs.Deeds.{Put, Step, Deed}
 use Rattle.osc_world.specs.Offers.{Offer}
 
@@ -29,7 +29,7 @@ abbrev pub World : Type 0
 World = State Value Byte Memory
 
 abbrev pub WorldTurn : Type 0
-WorldTurn = Turn Value Byte Memory
+WorldTurn = HartTurn Value Byte Memory
 
 abbrev pub WorldPut : Type 0
 WorldPut = Put Byte Place
@@ -43,13 +43,13 @@ WorldDeed = Deed Value Byte Memory Place
 abbrev pub WorldOffer : Type 0
 WorldOffer = Offer WorldDeed ObjectWhy
 
-abbrev pub size_of : Object → ℕ
-size_of (Live bytes) = length bytes
-size_of (Dead size) = size
+abbrev pub object_size : Object → ℕ
+object_size (Live bytes) = length bytes
+object_size (Dead size) = size
 
 -- the object after its end
 abbrev pub killed : Object → Object
-killed object = Dead (size_of object)
+killed object = Dead (object_size object)
 
 -- the permissions R and W
 abbrev pub read_write : PteBits

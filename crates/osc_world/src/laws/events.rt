@@ -11,7 +11,7 @@ ghost use Rattle.osc_rv.specs.declared.instr.Instr.{Instr};
 ghost use Rattle.osc_word.specs.Environment.{output_limit};
 ghost use Rattle.osc_world.specs.States.{turn_of};
 ghost use Rattle.osc_world.specs.World.{WorldTurn};
-ghost use Rattle.osc_world.specs.Deeds.{Forks, after};
+ghost use Rattle.osc_world.specs.Deeds.{Forks, state_after};
 ghost use Rattle.osc_world.specs.Offers.{Goes, Errs};
 ghost use Rattle.osc_world.specs.Accesses.{world_kind};
 ghost use Rattle.osc_world.specs.Events.{does, meaning, IsNoConditional, LeavesNothingOpen, fits};
@@ -78,9 +78,9 @@ pub fn output_fits_its_room()
 {}
 
 /// A forked child has its parent's own memory and shared pages.
-#[tactic(auto, unfolding(crate::specs::Deeds::after))]
+#[tactic(auto, unfolding(crate::specs::Deeds::state_after))]
 pub fn fork_copies()
     ensures { (turn : WorldTurn) (hart : ℕ)
-        → slice_get (after world_kind turn (Forks hart)).processes (length turn.state.processes)
+        → slice_get (state_after world_kind turn (Forks hart)).processes (length turn.state.processes)
         ≡ Some (record { memory = turn.process.memory; shared = turn.process.shared; parent = Some turn.pid; status = None }) }
 {}
