@@ -14,12 +14,12 @@ use Rattle.osc_world.specs.declared.ObjectWhy.{ObjectWhy}
 use Rattle.osc_world.specs.declared.ObjectWhy.TheVariants.{PointerBytes}
 use Rattle.osc_world.specs.Values.{numbers_in, advanced}
 use Rattle.osc_world.specs.States.{turn_of}
-use Rattle.osc_world.specs.Deeds.{Deed, Steps, Keeps, Writes, Shares, Forks, Spawns, Exits, Leaves, Step, put_if, state_after}
+use Rattle.osc_world.specs.Deeds.{Deed, Steps, Heaps, Writes, Shares, Forks, Spawns, Exits, Leaves, Step, put_if, state_after}
 use Rattle.osc_world.specs.Offers.{Meaning, Goes, Errs, Unfit, then_try, chosen, write_count}
 use Rattle.osc_world.specs.World.{World, WorldTurn, WorldDeed, WorldOffer, WorldPut}
-use Rattle.osc_world.specs.Accesses.{reached_place, row_at, before, loaded_byte, bytes_at, area_bytes, put_in_world, world_kind}
+use Rattle.osc_world.specs.Accesses.{reached_place, row_at, before, loaded_byte, bytes_at, area_bytes, put_in_world}
 use Rattle.osc_world.specs.Instructions.{register_of}
-use Rattle.osc_world.specs.Calls.{write_deed}
+use Rattle.osc_world.specs.Calls.{write_deed, world_kind}
 use Rattle.osc_world.specs.Events.{offered, does_if, meaning_of, meaning_by, meaning, meaning_in, instr_at}
 use Rattle.osc_world.specs.Run.{ObjectRun, judged, judged_as, judged_on, object_run}
 use Rattle.osc_world.proofs.Table.{rows, OfMeaning, OfResult, OfDeed, IsNoWrite, WritesMeet, chosen-of, step-of, conditional-of, calls-of}
@@ -28,7 +28,7 @@ use Rattle.osc_world.proofs.Table.{rows, OfMeaning, OfResult, OfDeed, IsNoWrite,
 Fits : ℕ → WorldDeed → Type 0
 Fits count (Writes bytes) = count + length bytes ≤ output_limit
 Fits count (Steps step) = Unit {0}
-Fits count (Keeps memory value) = Unit {0}
+Fits count (Heaps deed) = Unit {0}
 Fits count (Shares more) = Unit {0}
 Fits count (Forks hart) = Unit {0}
 Fits count (Spawns hart pc sp arg) = Unit {0}
@@ -39,7 +39,7 @@ no-write-fits : (count : ℕ) (deed : WorldDeed) → IsNoWrite deed → Fits cou
 unfolding Fits IsNoWrite
 no-write-fits count (Writes bytes) n = absurd n
 no-write-fits count (Steps step) n = tt
-no-write-fits count (Keeps memory value) n = tt
+no-write-fits count (Heaps deed) n = tt
 no-write-fits count (Shares more) n = tt
 no-write-fits count (Forks hart) n = tt
 no-write-fits count (Spawns hart pc sp arg) n = tt
@@ -55,7 +55,7 @@ after-fits : (turn : WorldTurn) (deed : WorldDeed) → length turn.state.output 
 unfolding state_after Fits
 after-fits turn (Writes bytes) l f = rw (length-append turn.state.output bytes) f
 after-fits turn (Steps step) l f = rw (put-output turn step.put) l
-after-fits turn (Keeps memory value) l f = l
+after-fits turn (Heaps deed) l f = l
 after-fits turn (Shares more) l f = l
 after-fits turn (Forks hart) l f = l
 after-fits turn (Spawns hart pc sp arg) l f = l

@@ -19,12 +19,12 @@ use Rattle.osc_world.specs.declared.Value.TheVariants.{Num, Ptr}
 use Rattle.osc_world.specs.declared.ObjectWhy.{ObjectWhy}
 use Rattle.osc_world.specs.declared.ObjectWhy.TheVariants.{BadFree}
 use Rattle.osc_world.specs.States.{Hart}
-use Rattle.osc_world.specs.Deeds.{Deed, Steps, Keeps, Writes, Shares, Forks, Spawns, Exits, Leaves, answers}
+use Rattle.osc_world.specs.Deeds.{Deed, Steps, Heaps, Writes, Shares, Forks, Spawns, Exits, Leaves, answers}
 use Rattle.osc_world.specs.Offers.{Meaning, Goes, Errs, Unfit, Offer, Only, Grants, Starts, Conditional, Never, is_idle, chosen, answers_if, shares, thread_value, thread_at, child_value, provided, then_try}
-use Rattle.osc_world.specs.World.{World, WorldTurn, WorldStep, WorldDeed, WorldOffer, WorldPut}
-use Rattle.osc_world.specs.Accesses.{aimed, is_storable, puts, world_kind}
+use Rattle.osc_world.specs.World.{World, WorldTurn, WorldStep, WorldDeed, WorldOffer, WorldPut, Makes, Kills, Replaces}
+use Rattle.osc_world.specs.Accesses.{aimed, is_storable, puts}
 use Rattle.osc_world.specs.Instructions.{register_of, objects_of, conditional, conditional_step, holds_reservation, succeeds}
-use Rattle.osc_world.specs.Calls.{with_number, only_deed, keeps_objects, without_object, malloc_offer, replace_offer, free_deed, realloc_offer, is_live_start, write_deed, serves, calls}
+use Rattle.osc_world.specs.Calls.{with_number, only_deed, malloc_offer, free_deed, realloc_offer, is_live_start, write_deed, serves, calls}
 use Rattle.osc_world.specs.Events.{only_step, offered, meaning_of, meaning_by, does, IsNoConditional, LeavesNothingOpen}
 
 -- all instructions but calls and store-conditionals are steps that leave nothing to choose
@@ -117,7 +117,7 @@ chosen-of Q R harts Never choice.Fail q = tt
 unfoldable pub IsNoWrite : WorldDeed → Type 0
 IsNoWrite (Writes bytes) = ⊥
 IsNoWrite (Steps step) = Unit {0}
-IsNoWrite (Keeps memory value) = Unit {0}
+IsNoWrite (Heaps deed) = Unit {0}
 IsNoWrite (Shares count) = Unit {0}
 IsNoWrite (Forks hart) = Unit {0}
 IsNoWrite (Spawns hart pc sp arg) = Unit {0}
@@ -166,14 +166,16 @@ deed-of Q false why deed h = tt
 frees-of : (Q : WorldDeed → Type 0) → ((d : WorldDeed) → IsNoWrite d → Q d) → (turn : WorldTurn) (p : Value) → OfDeed Q (free_deed turn p)
 unfolding IsNoWrite
 frees-of Q free turn (Num n) = deed-of Q (n == 0) BadFree (answers turn (Num 0)) (free (answers turn (Num 0)) tt)
-frees-of Q free turn (Ptr o k) =
-    let dead : WorldDeed = keeps_objects turn (without_object (objects_of turn) o) (Num 0) in
-    deed-of Q (is_live_start k (slice_get (objects_of turn) o)) BadFree dead (free dead tt)
+frees-of Q free turn (Ptr o k) = deed-of Q (is_live_start k (slice_get (objects_of turn) o)) BadFree (Heaps (Kills o)) (free (Heaps (Kills o)) tt)
+
+mallocs-of : (Q : WorldDeed → Type 0) (R : Type 0) → ((d : WorldDeed) → IsNoWrite d → Q d) → (turn : WorldTurn) (size : Value) → OfResult Q R (malloc_offer turn size)
+unfolding OfOffer OfMeaning IsNoWrite
+mallocs-of Q R free turn size = number-of Q R size _ (λ n. (free (Heaps (Makes n)) tt, free (answers turn (Num 0)) tt))
 
 reallocs-of : (Q : WorldDeed → Type 0) (R : Type 0) → ((d : WorldDeed) → IsNoWrite d → Q d) → (turn : WorldTurn) (p size : Value) → OfResult Q R (realloc_offer turn p size)
 unfolding OfOffer OfMeaning IsNoWrite
-reallocs-of Q R free turn (Num n) size = provided-of Q R (n == 0) BadFree (with_number size (malloc_offer turn)) (number-of Q R size (malloc_offer turn) (λ m. (free _ tt, free _ tt)))
-reallocs-of Q R free turn (Ptr o k) size = provided-of Q R (is_live_start k (slice_get (objects_of turn) o)) BadFree (with_number size (replace_offer turn o)) (number-of Q R size (replace_offer turn o) (λ m. (free _ tt, free _ tt)))
+reallocs-of Q R free turn (Num n) size = provided-of Q R (n == 0) BadFree (malloc_offer turn size) (mallocs-of Q R free turn size)
+reallocs-of Q R free turn (Ptr o k) size = provided-of Q R (is_live_start k (slice_get (objects_of turn) o)) BadFree _ (number-of Q R size _ (λ n. (free (Heaps (Replaces o n)) tt, free (answers turn (Num 0)) tt)))
 
 answers-of : (Q : WorldDeed → Type 0) (R : Type 0) → ((d : WorldDeed) → IsNoWrite d → Q d) → (turn : WorldTurn) (value : Option Value) → OfOffer Q R (answers_if turn value)
 unfolding OfOffer IsNoWrite
@@ -199,7 +201,7 @@ serves-of Q R free turn w (call.Write buffer asked) = by (register_of turn asked
     by : (v : Value) → OfResult Q R (then_try (with_number v (write_deed turn (register_of turn buffer))) only_deed)
     by (Num n) = only-of Q R (write_deed turn (register_of turn buffer) n) (w (register_of turn buffer) n)
     by (Ptr o k) = tt
-serves-of Q R free turn w (call.Malloc size) = number-of Q R (register_of turn size) (malloc_offer turn) (λ m. (free _ tt, free _ tt))
+serves-of Q R free turn w (call.Malloc size) = mallocs-of Q R free turn (register_of turn size)
 serves-of Q R free turn w (call.Free p) = only-of Q R (free_deed turn (register_of turn p)) (frees-of Q free turn (register_of turn p))
 serves-of Q R free turn w (call.Realloc p size) = reallocs-of Q R free turn (register_of turn p) (register_of turn size)
 serves-of Q R free turn w call.Fork = ((λ h. free (Forks h) tt), free _ tt)

@@ -9,7 +9,6 @@ use Rattle.osc_sv39.specs.Entries.{is_readable, is_writable, is_executable}
 use Rattle.osc_world.specs.declared.Value.{Value}
 use Rattle.osc_world.specs.declared.Value.TheVariants.{Num, Ptr}
 use Rattle.osc_world.specs.declared.Byte.{Byte}
-use Rattle.osc_world.specs.declared.Byte.TheVariants.{Number}
 use Rattle.osc_world.specs.declared.ObjectWhy.{ObjectWhy}
 use Rattle.osc_world.specs.declared.ObjectWhy.TheVariants.{Trap, PointerUse, DeadObject, Outside, PointerBytes, PointerShared}
 use Rattle.osc_world.specs.declared.Area.{Area}
@@ -18,7 +17,7 @@ use Rattle.osc_world.specs.declared.Place.{Place}
 use Rattle.osc_world.specs.declared.Reservation.{Reservation}
 use Rattle.osc_world.specs.Values.{advanced, is_pointer_value, gather, spread}
 use Rattle.osc_world.specs.States.{Process, Hart, changed_at, shared_page_at}
-use Rattle.osc_world.specs.Deeds.{Kind, with_memory}
+use Rattle.osc_world.specs.Deeds.{with_memory}
 use Rattle.osc_world.specs.Offers.{then_try, provided}
 use Rattle.osc_world.specs.World.{World, WorldTurn, WorldPut, Memory, Object, Live, Dead, Page, read_write}
 
@@ -162,9 +161,6 @@ put_in_world turn put =
       shared = shared_overlaid turn.state.shared put.at.area put.at.offset put.bytes;
       harts = map (disturbed turn.pid put.at) turn.state.harts;
     }
-
-abbrev pub world_kind : Kind Value Byte Memory Place
-world_kind = record { number = Num; nought = Number 0; put = put_in_world }
 
 abbrev pub is_shared_area : Area → Bool
 is_shared_area (area.Object object) = false

@@ -9,32 +9,57 @@ use Rattle.osc_world.specs.declared.Value.{Value}
 use Rattle.osc_world.specs.declared.Value.TheVariants.{Num, Ptr}
 use Rattle.osc_world.specs.declared.Byte.{Byte}
 use Rattle.osc_world.specs.declared.Byte.TheVariants.{Number}
+use Rattle.osc_world.specs.declared.Place.{Place}
 use Rattle.osc_world.specs.declared.ObjectWhy.{ObjectWhy}
 use Rattle.osc_world.specs.declared.ObjectWhy.TheVariants.{PointerBytes, BadFree, BadCall}
 use Rattle.osc_world.specs.Values.{numbers_in}
 use Rattle.osc_world.specs.States.{changed_at}
-use Rattle.osc_world.specs.Deeds.{Keeps, Writes, Exits, Leaves, answers}
+use Rattle.osc_world.specs.Deeds.{Kind, Heaps, Writes, Exits, Leaves, answers}
 use Rattle.osc_world.specs.Offers.{Goes, Only, Grants, then_try, provided, joins, waits, forks, spawns, shares, write_count}
-use Rattle.osc_world.specs.World.{WorldTurn, WorldDeed, WorldOffer, Object, Live, Dead, killed}
-use Rattle.osc_world.specs.Accesses.{row_at, object_bytes}
+use Rattle.osc_world.specs.World.{WorldTurn, WorldDeed, WorldOffer, Memory, Object, Live, Dead, killed, ObjectDeed, Makes, Kills, Replaces}
+use Rattle.osc_world.specs.Accesses.{row_at, object_bytes, put_in_world}
 use Rattle.osc_world.specs.Instructions.{register_of, objects_of}
 
--- these are the caller's objects now, and the call has this answer
-abbrev pub keeps_objects : WorldTurn → List Object → Value → WorldDeed
-keeps_objects turn objects value = Keeps (record (turn.process.memory) { objects = objects }) value
-
--- a new object, to which a pointer is the answer; a refusal answers 0
-abbrev pub grants_object : WorldTurn → List Object → List Byte → WorldOffer
-grants_object turn objects bytes =
-    Grants (Goes (keeps_objects turn (objects ++ Live bytes ∷ []) (Ptr (length objects) 0))) (answers turn (Num 0))
+-- ---- the heap
 
 -- so many zero bytes
 abbrev pub zeros : ℕ → List Byte
 zeros count = replicate count (Number 0)
 
--- malloc
-abbrev pub malloc_offer : WorldTurn → ℕ → WorldOffer
-malloc_offer turn size = grants_object turn (objects_of turn) (zeros size)
+-- the common bytes, and zeros up to a size
+abbrev pub resized : List Byte → ℕ → List Byte
+resized bytes size = take size bytes ++ zeros (size - length bytes)
+
+-- the objects once one is dead
+abbrev pub without_object : List Object → ℕ → List Object
+without_object objects object = changed_at killed objects object
+
+-- the caller's objects: a new one comes last, and one that is replaced is dead
+abbrev pub objects_after : List Object → ObjectDeed → List Object
+objects_after objects (Makes size) = objects ++ Live (zeros size) ∷ []
+objects_after objects (Kills object) = without_object objects object
+objects_after objects (Replaces object size) =
+    without_object objects object ++ Live (resized (object_bytes (slice_get objects object)) size) ∷ []
+
+-- the answer: a pointer to a new object
+abbrev pub pointer_after : List Object → ObjectDeed → Value
+pointer_after objects (Makes size) = Ptr (length objects) 0
+pointer_after objects (Kills object) = Num 0
+pointer_after objects (Replaces object size) = Ptr (length objects) 0
+
+abbrev pub world_kind : Kind Value Byte Memory Place ObjectDeed
+world_kind =
+    record {
+      number = Num;
+      nought = Number 0;
+      put = put_in_world;
+      memory = (λ turn deed. record (turn.process.memory) { objects = objects_after turn.process.memory.objects deed });
+      answer = (λ turn deed. pointer_after turn.process.memory.objects deed);
+    }
+
+-- memory is given for a new object, or the answer is 0
+abbrev pub grants_object : WorldTurn → ObjectDeed → WorldOffer
+grants_object turn deed = Grants (Goes (Heaps deed)) (answers turn (Num 0))
 
 -- whether a free of this offset of an object may be
 abbrev pub is_live_start : ℕ → Option Object → Bool
@@ -42,37 +67,29 @@ is_live_start offset (Some (Live bytes)) = offset == 0
 is_live_start offset (Some (Dead size)) = false
 is_live_start offset None = false
 
--- the objects once one is dead
-abbrev pub without_object : List Object → ℕ → List Object
-without_object objects object = changed_at killed objects object
-
 -- free: of 0 it does nothing
 abbrev pub free_deed : WorldTurn → Value → Result WorldDeed ObjectWhy
 free_deed turn (Num number) = provided (number == 0) BadFree (Ok (answers turn (Num 0)))
 free_deed turn (Ptr object offset) =
-    provided (is_live_start offset (slice_get (objects_of turn) object)) BadFree
-    (Ok (keeps_objects turn (without_object (objects_of turn) object) (Num 0)))
-
--- the common bytes, and zeros up to a size
-abbrev pub resized : List Byte → ℕ → List Byte
-resized bytes size = take size bytes ++ zeros (size - length bytes)
-
--- realloc of a live object: the old one is dead, and the next one has its bytes
-abbrev pub replace_offer : WorldTurn → ℕ → ℕ → WorldOffer
-replace_offer turn object size =
-    grants_object turn (without_object (objects_of turn) object)
-    (resized (object_bytes (slice_get (objects_of turn) object)) size)
+    provided (is_live_start offset (slice_get (objects_of turn) object)) BadFree (Ok (Heaps (Kills object)))
 
 -- what a call does whose argument has to be a number
 abbrev pub with_number : {T : Type 0} → Value → (ℕ → T) → Result T ObjectWhy
 with_number (Num number) call = Ok (call number)
 with_number (Ptr object offset) call = Err BadCall
 
+-- malloc
+abbrev pub malloc_offer : WorldTurn → Value → Result WorldOffer ObjectWhy
+malloc_offer turn size = with_number size (λ n. grants_object turn (Makes n))
+
 -- realloc: of 0 it is malloc
 abbrev pub realloc_offer : WorldTurn → Value → Value → Result WorldOffer ObjectWhy
-realloc_offer turn (Num number) size = provided (number == 0) BadFree (with_number size (malloc_offer turn))
+realloc_offer turn (Num number) size = provided (number == 0) BadFree (malloc_offer turn size)
 realloc_offer turn (Ptr object offset) size =
-    provided (is_live_start offset (slice_get (objects_of turn) object)) BadFree (with_number size (replace_offer turn object))
+    provided (is_live_start offset (slice_get (objects_of turn) object)) BadFree
+    (with_number size (λ n. grants_object turn (Replaces object n)))
+
+-- ---- calls
 
 -- write: the first bytes of the buffer, as many as the output has room for
 abbrev pub write_deed : WorldTurn → Value → ℕ → Result WorldDeed ObjectWhy
@@ -91,7 +108,7 @@ unfoldable pub serves : WorldTurn → Call → Result WorldOffer ObjectWhy
 serves turn (Exit status) = with_number (register_of turn status) (λ n. Only (Exits n))
 serves turn (Write buffer asked) =
     then_try (with_number (register_of turn asked) (write_deed turn (register_of turn buffer))) only_deed
-serves turn (Malloc size) = with_number (register_of turn size) (malloc_offer turn)
+serves turn (Malloc size) = malloc_offer turn (register_of turn size)
 serves turn (Free pointer) = only_deed (free_deed turn (register_of turn pointer))
 serves turn (Realloc pointer size) = realloc_offer turn (register_of turn pointer) (register_of turn size)
 serves turn Fork = Ok (forks Num turn)

@@ -1,5 +1,5 @@
 -- What an event does to a state of the object run or of the plain run, once it is decided which deed it
--- is. P says where a store begins. RISC-V Unprivileged manual, "RV32I Base Integer Instruction Set": x0 is
+-- is. P says where a store begins, and H what a call of the heap does. RISC-V Unprivileged manual, "RV32I Base Integer Instruction Set": x0 is
 -- never changed; the calls are this project's own.
 use Rattle.std.specs.Prelude.{ℕ, ◌+◌, ◌-◌, ◌*◌, ◌%◌, ◌==◌, Bool, false, if◌then◌else◌, List, [], ◌∷◌, ◌++◌, length, map, replicate, slice_set, Option, Some, None}
 use Rattle.std.specs.List.{list_any, range_with_len}
@@ -24,21 +24,24 @@ pub record Step (V B P : Type 0) : Type 0 where
   pub pc : ℕ
   pub reservation : Option Reservation
 
-pub data Deed (V B M P : Type 0) : Type 0 where
-  Steps : Step V B P → Deed V B M P
-  Keeps : M → V → Deed V B M P  -- the process has this memory of its own, and the call this answer
-  Writes : List ℕ → Deed V B M P  -- bytes of output
-  Shares : ℕ → Deed V B M P  -- so many pages
-  Forks : ℕ → Deed V B M P  -- the child runs on this hart
-  Spawns : ℕ → ℕ → V → V → Deed V B M P  -- a thread on this hart, with its pc, sp and argument
-  Exits : ℕ → Deed V B M P  -- with this status, of which 6 bits count
-  Leaves : V → Deed V B M P  -- a thread is done, and leaves this value
+pub data Deed (V B P H : Type 0) : Type 0 where
+  Steps : Step V B P → Deed V B P H
+  Heaps : H → Deed V B P H  -- malloc, free or realloc
+  Writes : List ℕ → Deed V B P H  -- bytes of output
+  Shares : ℕ → Deed V B P H  -- so many pages
+  Forks : ℕ → Deed V B P H  -- the child runs on this hart
+  Spawns : ℕ → ℕ → V → V → Deed V B P H  -- a thread on this hart, with its pc, sp and argument
+  Exits : ℕ → Deed V B P H  -- with this status, of which 6 bits count
+  Leaves : V → Deed V B P H  -- a thread is done, and leaves this value
 
--- what the two runs do not share: the value of a number, the byte 0, and the state after a store
-pub record Kind (V B M P : Type 0) : Type 0 where
+-- what the two runs do not share: the value of a number, the byte 0, the state after a store, and a process's
+-- own memory after a call of the heap, with its answer
+pub record Kind (V B M P H : Type 0) : Type 0 where
   pub number : ℕ → V
   pub nought : B
   pub put : HartTurn V B M → Put B P → State V B M
+  pub memory : HartTurn V B M → H → M
+  pub answer : HartTurn V B M → H → V
 
 -- ---- steps
 
@@ -48,7 +51,7 @@ sets turn rd value =
     record { put = None; rd = rd; value = value; pc = next turn.hart.pc; reservation = turn.hart.reservation }
 
 -- a call is answered in a0; no reservation outlasts a call
-abbrev pub answers : {V B M P : Type 0} → HartTurn V B M → V → Deed V B M P
+abbrev pub answers : {V B M P H : Type 0} → HartTurn V B M → V → Deed V B P H
 answers turn value = Steps (record (sets turn answer_register value) { reservation = None })
 
 -- the hart goes on with these registers at this pc, in a state that its deed left
@@ -62,11 +65,11 @@ abbrev pub with_answer : {V B M : Type 0} → HartTurn V B M → State V B M →
 with_answer turn state value =
     goes_on turn state (with_value turn.hart.regs answer_register value) (next turn.hart.pc) None
 
-abbrev pub put_if : {V B M P : Type 0} → Kind V B M P → HartTurn V B M → Option (Put B P) → State V B M
+abbrev pub put_if : {V B M P H : Type 0} → Kind V B M P H → HartTurn V B M → Option (Put B P) → State V B M
 put_if kind turn None = turn.state
 put_if kind turn (Some put) = kind.put turn put
 
-abbrev pub after_step : {V B M P : Type 0} → Kind V B M P → HartTurn V B M → Step V B P → State V B M
+abbrev pub after_step : {V B M P H : Type 0} → Kind V B M P H → HartTurn V B M → Step V B P → State V B M
 after_step kind turn step =
     goes_on turn (put_if kind turn step.put) (with_value turn.hart.regs step.rd step.value) step.pc step.reservation
 
@@ -171,9 +174,9 @@ thread_hart number turn pc sp arg =
 -- ---- all of it
 
 -- the state after a deed
-unfoldable pub state_after : {V B M P : Type 0} → Kind V B M P → HartTurn V B M → Deed V B M P → State V B M
+unfoldable pub state_after : {V B M P H : Type 0} → Kind V B M P H → HartTurn V B M → Deed V B P H → State V B M
 state_after kind turn (Steps step) = after_step kind turn step
-state_after kind turn (Keeps memory value) = with_answer turn (with_memory turn memory) value
+state_after kind turn (Heaps deed) = with_answer turn (with_memory turn (kind.memory turn deed)) (kind.answer turn deed)
 state_after kind turn (Writes bytes) =
     with_answer turn (record (turn.state) { output = turn.state.output ++ bytes }) (kind.number (length bytes))
 state_after kind turn (Shares count) =

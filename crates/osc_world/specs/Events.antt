@@ -20,9 +20,9 @@ use Rattle.osc_world.specs.Deeds.{Steps, sets, state_after}
 use Rattle.osc_world.specs.Offers.{Meaning, Goes, Errs, Unfit, Only, chosen, then_try, provided}
 use Rattle.osc_world.specs.World.{World, WorldTurn, WorldStep, WorldDeed, WorldOffer}
 use Rattle.osc_world.specs.Operations.{operated, operated_imm, multiplied, is_taken_for}
-use Rattle.osc_world.specs.Accesses.{aimed, value_at, world_kind}
+use Rattle.osc_world.specs.Accesses.{aimed, value_at}
 use Rattle.osc_world.specs.Instructions.{register_of, objects_of, sets_if, passes, jumps, jumps_by, branches, loads, stores, amos, reserves, conditional}
-use Rattle.osc_world.specs.Calls.{calls}
+use Rattle.osc_world.specs.Calls.{calls, world_kind}
 
 -- a step that leaves nothing to choose
 abbrev pub only_step : Result WorldStep ObjectWhy → Result WorldOffer ObjectWhy

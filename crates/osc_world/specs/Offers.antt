@@ -52,7 +52,7 @@ provided test why continue = if test then continue else Err why
 -- ---- calls of both runs; `number` gives the value of a number
 
 -- join and wait: the answer, once there is one
-abbrev pub answers_if : {V B M P E : Type 0} → HartTurn V B M → Option V → Offer (Deed V B M P) E
+abbrev pub answers_if : {V B M P H E : Type 0} → HartTurn V B M → Option V → Offer (Deed V B P H) E
 answers_if turn None = Never
 answers_if turn (Some value) = Only (answers turn value)
 
@@ -65,7 +65,7 @@ thread_value number pid None = Some (number minus_one)
 thread_value number pid (Some thread) = if thread.spawner == pid then thread.value else Some (number minus_one)
 
 -- join: the value of a thread that this process spawned
-abbrev pub joins : {V B M P E : Type 0} → (ℕ → V) → HartTurn V B M → ℕ → Offer (Deed V B M P) E
+abbrev pub joins : {V B M P H E : Type 0} → (ℕ → V) → HartTurn V B M → ℕ → Offer (Deed V B P H) E
 joins number turn thread = answers_if turn (thread_value number turn.pid (thread_at turn.state.threads thread))
 
 abbrev pub child_value : {V M : Type 0} → (ℕ → V) → ℕ → Option (Process M) → Option V
@@ -74,17 +74,17 @@ child_value number pid (Some process) =
     if is_number process.parent pid then option_map number process.status else Some (number minus_one)
 
 -- wait: the status of a child of this process
-abbrev pub waits : {V B M P E : Type 0} → (ℕ → V) → HartTurn V B M → ℕ → Offer (Deed V B M P) E
+abbrev pub waits : {V B M P H E : Type 0} → (ℕ → V) → HartTurn V B M → ℕ → Offer (Deed V B P H) E
 waits number turn child = answers_if turn (child_value number turn.pid (slice_get turn.state.processes child))
 
-abbrev pub forks : {V B M P E : Type 0} → (ℕ → V) → HartTurn V B M → Offer (Deed V B M P) E
+abbrev pub forks : {V B M P H E : Type 0} → (ℕ → V) → HartTurn V B M → Offer (Deed V B P H) E
 forks number turn = Starts (λ hart. Forks hart) (answers turn (number minus_one))
 
-abbrev pub spawns : {V B M P E : Type 0} → (ℕ → V) → HartTurn V B M → ℕ → V → V → Offer (Deed V B M P) E
+abbrev pub spawns : {V B M P H E : Type 0} → (ℕ → V) → HartTurn V B M → ℕ → V → V → Offer (Deed V B P H) E
 spawns number turn pc sp arg = Starts (λ hart. Spawns hart pc sp arg) (answers turn (number minus_one))
 
 -- share: no pages are never given
-abbrev pub shares : {V B M P E : Type 0} → ℕ → Meaning (Deed V B M P) E
+abbrev pub shares : {V B P H E : Type 0} → ℕ → Meaning (Deed V B P H) E
 shares count = if nat_lt 0 count then Goes (Shares count) else Unfit
 
 -- write: the count of bytes that the output has room for

@@ -23,7 +23,7 @@ use Rattle.osc_isa.specs.Integer.{done_of, loaded, load_width}
 use Rattle.osc_isa.specs.Atomic.{width_of, widened, amo_of, sc_success, sc_failure}
 use Rattle.osc_isa.specs.Traps.{Trap, trap_of}
 use Rattle.osc_world.specs.States.{State, HartTurn, changed_at, shared_page_at}
-use Rattle.osc_world.specs.Deeds.{Put, Step, Deed, Kind, Steps, Keeps, Writes, Exits, Leaves, sets, answers, with_memory}
+use Rattle.osc_world.specs.Deeds.{Put, Step, Deed, Kind, Steps, Heaps, Writes, Exits, Leaves, sets, answers, with_memory}
 use Rattle.osc_world.specs.Offers.{Meaning, Goes, Errs, Offer, Only, Grants, Conditional, Never, joins, waits, forks, spawns, shares, write_count}
 use Rattle.osc_world.specs.Accesses.{overlaid}
 
@@ -36,6 +36,13 @@ pub record Flat : Type 0 where
   pub held : List Block
   pub sizes : ℕ → ℕ
   pub given : List ℕ
+
+-- a call of the heap that is done
+pub data BlockDeed : Type 0 where
+  Places : ℕ → ℕ → BlockDeed  -- a block for a size at this start
+  Releases : Block → BlockDeed
+  Stays : ℕ → ℕ → BlockDeed  -- a user address, which keeps its block for this size
+  Moves : Block → ℕ → ℕ → ℕ → BlockDeed  -- a block and its user address, for a size and to this start
 
 -- why a run can't go on: the heap has no slot, or there is no address for a shared page
 pub data Want : Type 0 where
@@ -52,7 +59,7 @@ abbrev pub PlainStep : Type 0
 PlainStep = Step ℕ ℕ ℕ
 
 abbrev pub PlainDeed : Type 0
-PlainDeed = Deed ℕ ℕ Flat ℕ
+PlainDeed = Deed ℕ ℕ ℕ BlockDeed
 
 abbrev pub PlainOffer : Type 0
 PlainOffer = Offer PlainDeed Want
@@ -92,9 +99,6 @@ put_by turn start others (Some page) =
 unfoldable pub plain_put : PlainTurn → Put ℕ ℕ → Plain
 plain_put turn put = put_by turn put.at put.bytes (shared_page_at turn.process.shared put.at)
 
-abbrev pub plain_kind : Kind ℕ ℕ Flat ℕ
-plain_kind = record { number = (λ n. n); nought = 0; put = plain_put }
-
 -- a step that stores a number
 abbrev pub putting : ℕ → ℕ → ℕ → PlainStep → PlainStep
 putting width address value step =
@@ -128,21 +132,6 @@ atomic_width _ = 1
 
 -- ---- the heap
 
--- a user address is given for a size, with these bytes, and is the answer
-abbrev pub grants_block : Flat → List Block → ℕ → ℕ → List ℕ → PlainDeed
-grants_block flat held user size bytes =
-    Keeps (record flat {
-      bytes = with_bytes flat.bytes user bytes;
-      held = held;
-      sizes = (λ other. if other == user then size else flat.sizes other);
-      given = flat.given ++ user ∷ [];
-    }) user
-
--- where a realloc's bytes go: a block stays where the room is the same, else it moves to the least slot
-pub data Target : Type 0 where
-  Stays : Target
-  Moves : ℕ → Target
-
 -- the least slot for a size, if there is one
 abbrev pub next_start : Flat → ℕ → Option ℕ
 next_start flat size = least_start flat.frames flat.held (room_of size)
@@ -151,32 +140,15 @@ next_start flat size = least_start flat.frames flat.held (room_of size)
 abbrev pub held_with : Flat → ℕ → ℕ → List Block
 held_with flat start size = with_block (record { start = start; room = room_of size }) flat.held
 
-abbrev pub target : Flat → Block → ℕ → Option Target
-target flat block size =
-    if is_room block.room (room_of size) then Some Stays else option_map (λ start. Moves start) (next_start flat size)
-
--- a move is malloc, copy and free
-abbrev pub replaced : Flat → Block → ℕ → ℕ → List ℕ → Target → PlainDeed
-replaced flat block user size bytes Stays = grants_block flat flat.held user size bytes
-replaced flat block user size bytes (Moves start) =
-    grants_block flat (without_block block (held_with flat start size)) (start + 16) size bytes
-
-abbrev pub unless_stuck : Option PlainDeed → Meaning PlainDeed Want
-unless_stuck None = Errs NoSlot
-unless_stuck (Some deed) = Goes deed
-
-abbrev pub malloced : Flat → ℕ → ℕ → PlainDeed
-malloced flat size start = grants_block flat (held_with flat start size) (start + 16) size (replicate size 0)
-
--- malloc
-abbrev pub plain_malloc : PlainTurn → Flat → ℕ → PlainOffer
-plain_malloc turn flat size =
-    Grants (unless_stuck (option_map (malloced flat size) (next_start flat size))) (answers turn 0)
-
--- free: the slot is given back at once
-abbrev pub released : Flat → Option Block → Flat
-released flat None = flat
-released flat (Some block) = record flat { held = without_block block flat.held }
+-- a user address is given for a size, with these bytes
+abbrev pub with_given : Flat → List Block → ℕ → ℕ → List ℕ → Flat
+with_given flat held user size bytes =
+    record flat {
+      bytes = with_bytes flat.bytes user bytes;
+      held = held;
+      sizes = (λ other. if other == user then size else flat.sizes other);
+      given = flat.given ++ user ∷ [];
+    }
 
 -- the common bytes of an object with another size, and zeros
 abbrev pub plain_resized : PlainTurn → ℕ → ℕ → List ℕ
@@ -184,13 +156,52 @@ plain_resized turn user size =
     let common = min (turn.process.memory.sizes user) size in
     plain_row turn common user ++ replicate (size - common) 0
 
+-- a move is malloc, copy and free
+abbrev pub flat_after : PlainTurn → Flat → BlockDeed → Flat
+flat_after turn flat (Places size start) =
+    with_given flat (held_with flat start size) (start + 16) size (replicate size 0)
+flat_after turn flat (Releases block) = record flat { held = without_block block flat.held }
+flat_after turn flat (Stays user size) = with_given flat flat.held user size (plain_resized turn user size)
+flat_after turn flat (Moves block user size start) =
+    with_given flat (without_block block (held_with flat start size)) (start + 16) size (plain_resized turn user size)
+
+abbrev pub address_after : BlockDeed → ℕ
+address_after (Places size start) = start + 16
+address_after (Releases block) = 0
+address_after (Stays user size) = user
+address_after (Moves block user size start) = start + 16
+
+abbrev pub plain_kind : Kind ℕ ℕ Flat ℕ BlockDeed
+plain_kind =
+    record {
+      number = (λ n. n);
+      nought = 0;
+      put = plain_put;
+      memory = (λ turn deed. flat_after turn turn.process.memory deed);
+      answer = (λ turn deed. address_after deed);
+    }
+
+-- memory is given, or the answer is 0; it is stuck where no deed gives memory
+abbrev pub grants_block : PlainTurn → Option BlockDeed → PlainOffer
+grants_block turn None = Grants (Errs NoSlot) (answers turn 0)
+grants_block turn (Some deed) = Grants (Goes (Heaps deed)) (answers turn 0)
+
+-- malloc
+abbrev pub plain_malloc : PlainTurn → Flat → ℕ → PlainOffer
+plain_malloc turn flat size = grants_block turn (option_map (Places size) (next_start flat size))
+
+-- free: the slot is given back at once
+abbrev pub plain_free : PlainTurn → Option Block → PlainDeed
+plain_free turn None = answers turn 0
+plain_free turn (Some block) = Heaps (Releases block)
+
 -- realloc of a held block
 abbrev pub plain_replace : PlainTurn → Flat → ℕ → ℕ → Option Block → PlainOffer
 plain_replace turn flat user size None = Never
 plain_replace turn flat user size (Some block) =
-    Grants
-    (unless_stuck (option_map (replaced flat block user size (plain_resized turn user size)) (target flat block size)))
-    (answers turn 0)
+    grants_block turn
+    (if is_room block.room (room_of size) then Some (Stays user size)
+    else option_map (Moves block user size) (next_start flat size))
 
 abbrev pub plain_realloc : PlainTurn → Flat → ℕ → ℕ → PlainOffer
 plain_realloc turn flat user size =
@@ -209,8 +220,7 @@ unfoldable pub plain_serves : PlainTurn → Call → PlainOffer
 plain_serves turn (calls.Exit status) = Only (Exits status)
 plain_serves turn (calls.Write buffer asked) = Only (Writes (plain_row turn (write_count turn.state asked) buffer))
 plain_serves turn (calls.Malloc size) = plain_malloc turn turn.process.memory size
-plain_serves turn (calls.Free user) =
-    Only (Keeps (released turn.process.memory (block_of_user turn.process.memory.held user)) 0)
+plain_serves turn (calls.Free user) = Only (plain_free turn (block_of_user turn.process.memory.held user))
 plain_serves turn (calls.Realloc user size) = plain_realloc turn turn.process.memory user size
 plain_serves turn calls.Fork = forks (λ n. n) turn
 plain_serves turn (calls.Spawn pc sp arg) = spawns (λ n. n) turn pc sp arg

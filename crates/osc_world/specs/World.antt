@@ -25,6 +25,12 @@ pub record Memory : Type 0 where
   pub pages : List Page
   pub objects : List Object
 
+-- a call of the heap that is done
+pub data ObjectDeed : Type 0 where
+  Makes : ℕ → ObjectDeed  -- a new object of this size
+  Kills : ℕ → ObjectDeed  -- this object
+  Replaces : ℕ → ℕ → ObjectDeed  -- an object, by a new one of this size
+
 abbrev pub World : Type 0
 World = State Value Byte Memory
 
@@ -38,7 +44,7 @@ abbrev pub WorldStep : Type 0
 WorldStep = Step Value Byte Place
 
 abbrev pub WorldDeed : Type 0
-WorldDeed = Deed Value Byte Memory Place
+WorldDeed = Deed Value Byte Place ObjectDeed
 
 abbrev pub WorldOffer : Type 0
 WorldOffer = Offer WorldDeed ObjectWhy

@@ -13,7 +13,7 @@ ghost use Rattle.osc_world.specs.States.{turn_of};
 ghost use Rattle.osc_world.specs.World.{WorldTurn};
 ghost use Rattle.osc_world.specs.Deeds.{Forks, state_after};
 ghost use Rattle.osc_world.specs.Offers.{Goes, Errs};
-ghost use Rattle.osc_world.specs.Accesses.{world_kind};
+ghost use Rattle.osc_world.specs.Calls.{world_kind};
 ghost use Rattle.osc_world.specs.Events.{does, meaning, IsNoConditional, LeavesNothingOpen, fits};
 ghost use Rattle.osc_world.specs.Run.{ObjectRun, all_fit, judged, object_run};
 ghost use Rattle.osc_world.specs.PlainWorld as plain_world;
