@@ -28,7 +28,7 @@ use Rattle.osc_world.proofs.Table.{rows, OfMeaning, OfResult, OfDeed, IsNoWrite,
 Fits : ℕ → WorldDeed → Type 0
 Fits count (Writes bytes) = count + length bytes ≤ output_limit
 Fits count (Steps step) = Unit {0}
-Fits count (Heaps deed) = Unit {0}
+Fits count (Heaps deed value) = Unit {0}
 Fits count (Shares more) = Unit {0}
 Fits count (Forks hart) = Unit {0}
 Fits count (Spawns hart pc sp arg) = Unit {0}
@@ -39,7 +39,7 @@ no-write-fits : (count : ℕ) (deed : WorldDeed) → IsNoWrite deed → Fits cou
 unfolding Fits IsNoWrite
 no-write-fits count (Writes bytes) n = absurd n
 no-write-fits count (Steps step) n = tt
-no-write-fits count (Heaps deed) n = tt
+no-write-fits count (Heaps deed value) n = tt
 no-write-fits count (Shares more) n = tt
 no-write-fits count (Forks hart) n = tt
 no-write-fits count (Spawns hart pc sp arg) n = tt
@@ -55,7 +55,7 @@ after-fits : (turn : WorldTurn) (deed : WorldDeed) → length turn.state.output 
 unfolding state_after Fits
 after-fits turn (Writes bytes) l f = rw (length-append turn.state.output bytes) f
 after-fits turn (Steps step) l f = rw (put-output turn step.put) l
-after-fits turn (Heaps deed) l f = l
+after-fits turn (Heaps deed value) l f = l
 after-fits turn (Shares more) l f = l
 after-fits turn (Forks hart) l f = l
 after-fits turn (Spawns hart pc sp arg) l f = l

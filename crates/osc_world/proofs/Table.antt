@@ -117,7 +117,7 @@ chosen-of Q R harts Never choice.Fail q = tt
 unfoldable pub IsNoWrite : WorldDeed → Type 0
 IsNoWrite (Writes bytes) = ⊥
 IsNoWrite (Steps step) = Unit {0}
-IsNoWrite (Heaps deed) = Unit {0}
+IsNoWrite (Heaps deed value) = Unit {0}
 IsNoWrite (Shares count) = Unit {0}
 IsNoWrite (Forks hart) = Unit {0}
 IsNoWrite (Spawns hart pc sp arg) = Unit {0}
@@ -166,16 +166,16 @@ deed-of Q false why deed h = tt
 frees-of : (Q : WorldDeed → Type 0) → ((d : WorldDeed) → IsNoWrite d → Q d) → (turn : WorldTurn) (p : Value) → OfDeed Q (free_deed turn p)
 unfolding IsNoWrite
 frees-of Q free turn (Num n) = deed-of Q (n == 0) BadFree (answers turn (Num 0)) (free (answers turn (Num 0)) tt)
-frees-of Q free turn (Ptr o k) = deed-of Q (is_live_start k (slice_get (objects_of turn) o)) BadFree (Heaps (Kills o)) (free (Heaps (Kills o)) tt)
+frees-of Q free turn (Ptr o k) = deed-of Q (is_live_start k (slice_get (objects_of turn) o)) BadFree (Heaps (Kills o) (Num 0)) (free (Heaps (Kills o) (Num 0)) tt)
 
 mallocs-of : (Q : WorldDeed → Type 0) (R : Type 0) → ((d : WorldDeed) → IsNoWrite d → Q d) → (turn : WorldTurn) (size : Value) → OfResult Q R (malloc_offer turn size)
 unfolding OfOffer OfMeaning IsNoWrite
-mallocs-of Q R free turn size = number-of Q R size _ (λ n. (free (Heaps (Makes n)) tt, free (answers turn (Num 0)) tt))
+mallocs-of Q R free turn size = number-of Q R size _ (λ n. (free (Heaps (Makes n) _) tt, free (answers turn (Num 0)) tt))
 
 reallocs-of : (Q : WorldDeed → Type 0) (R : Type 0) → ((d : WorldDeed) → IsNoWrite d → Q d) → (turn : WorldTurn) (p size : Value) → OfResult Q R (realloc_offer turn p size)
 unfolding OfOffer OfMeaning IsNoWrite
 reallocs-of Q R free turn (Num n) size = provided-of Q R (n == 0) BadFree (malloc_offer turn size) (mallocs-of Q R free turn size)
-reallocs-of Q R free turn (Ptr o k) size = provided-of Q R (is_live_start k (slice_get (objects_of turn) o)) BadFree _ (number-of Q R size _ (λ n. (free (Heaps (Replaces o n)) tt, free (answers turn (Num 0)) tt)))
+reallocs-of Q R free turn (Ptr o k) size = provided-of Q R (is_live_start k (slice_get (objects_of turn) o)) BadFree _ (number-of Q R size _ (λ n. (free (Heaps (Replaces o n) _) tt, free (answers turn (Num 0)) tt)))
 
 answers-of : (Q : WorldDeed → Type 0) (R : Type 0) → ((d : WorldDeed) → IsNoWrite d → Q d) → (turn : WorldTurn) (value : Option Value) → OfOffer Q R (answers_if turn value)
 unfolding OfOffer IsNoWrite

@@ -41,12 +41,6 @@ objects_after objects (Kills object) = without_object objects object
 objects_after objects (Replaces object size) =
     without_object objects object ++ Live (resized (object_bytes (slice_get objects object)) size) ∷ []
 
--- the answer: a pointer to a new object
-abbrev pub pointer_after : List Object → ObjectDeed → Value
-pointer_after objects (Makes size) = Ptr (length objects) 0
-pointer_after objects (Kills object) = Num 0
-pointer_after objects (Replaces object size) = Ptr (length objects) 0
-
 abbrev pub world_kind : Kind Value Byte Memory Place ObjectDeed
 world_kind =
     record {
@@ -54,12 +48,11 @@ world_kind =
       nought = Number 0;
       put = put_in_world;
       memory = (λ turn deed. record (turn.process.memory) { objects = objects_after turn.process.memory.objects deed });
-      answer = (λ turn deed. pointer_after turn.process.memory.objects deed);
     }
 
--- memory is given for a new object, or the answer is 0
+-- a pointer to the new object, or a refusal, which answers 0
 abbrev pub grants_object : WorldTurn → ObjectDeed → WorldOffer
-grants_object turn deed = Grants (Goes (Heaps deed)) (answers turn (Num 0))
+grants_object turn deed = Grants (Goes (Heaps deed (Ptr (length (objects_of turn)) 0))) (answers turn (Num 0))
 
 -- whether a free of this offset of an object may be
 abbrev pub is_live_start : ℕ → Option Object → Bool
@@ -71,7 +64,7 @@ is_live_start offset None = false
 abbrev pub free_deed : WorldTurn → Value → Result WorldDeed ObjectWhy
 free_deed turn (Num number) = provided (number == 0) BadFree (Ok (answers turn (Num 0)))
 free_deed turn (Ptr object offset) =
-    provided (is_live_start offset (slice_get (objects_of turn) object)) BadFree (Ok (Heaps (Kills object)))
+    provided (is_live_start offset (slice_get (objects_of turn) object)) BadFree (Ok (Heaps (Kills object) (Num 0)))
 
 -- what a call does whose argument has to be a number
 abbrev pub with_number : {T : Type 0} → Value → (ℕ → T) → Result T ObjectWhy
@@ -100,8 +93,7 @@ write_deed turn buffer asked =
 
 -- a deed that leaves nothing to choose
 abbrev pub only_deed : Result WorldDeed ObjectWhy → Result WorldOffer ObjectWhy
-only_deed (Ok deed) = Ok (Only deed)
-only_deed (Err why) = Err why
+only_deed deed = then_try deed (λ d. Ok (Only d))
 
 -- a call whose arguments stand in these registers
 unfoldable pub serves : WorldTurn → Call → Result WorldOffer ObjectWhy

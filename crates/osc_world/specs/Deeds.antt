@@ -26,7 +26,7 @@ pub record Step (V B P : Type 0) : Type 0 where
 
 pub data Deed (V B P H : Type 0) : Type 0 where
   Steps : Step V B P → Deed V B P H
-  Heaps : H → Deed V B P H  -- malloc, free or realloc
+  Heaps : H → V → Deed V B P H  -- malloc, free or realloc, with its answer
   Writes : List ℕ → Deed V B P H  -- bytes of output
   Shares : ℕ → Deed V B P H  -- so many pages
   Forks : ℕ → Deed V B P H  -- the child runs on this hart
@@ -35,13 +35,12 @@ pub data Deed (V B P H : Type 0) : Type 0 where
   Leaves : V → Deed V B P H  -- a thread is done, and leaves this value
 
 -- what the two runs do not share: the value of a number, the byte 0, the state after a store, and a process's
--- own memory after a call of the heap, with its answer
+-- own memory after a call of the heap
 pub record Kind (V B M P H : Type 0) : Type 0 where
   pub number : ℕ → V
   pub nought : B
   pub put : HartTurn V B M → Put B P → State V B M
   pub memory : HartTurn V B M → H → M
-  pub answer : HartTurn V B M → H → V
 
 -- ---- steps
 
@@ -176,7 +175,7 @@ thread_hart number turn pc sp arg =
 -- the state after a deed
 unfoldable pub state_after : {V B M P H : Type 0} → Kind V B M P H → HartTurn V B M → Deed V B P H → State V B M
 state_after kind turn (Steps step) = after_step kind turn step
-state_after kind turn (Heaps deed) = with_answer turn (with_memory turn (kind.memory turn deed)) (kind.answer turn deed)
+state_after kind turn (Heaps deed value) = with_answer turn (with_memory turn (kind.memory turn deed)) value
 state_after kind turn (Writes bytes) =
     with_answer turn (record (turn.state) { output = turn.state.output ++ bytes }) (kind.number (length bytes))
 state_after kind turn (Shares count) =

@@ -26,8 +26,7 @@ use Rattle.osc_world.specs.Calls.{calls, world_kind}
 
 -- a step that leaves nothing to choose
 abbrev pub only_step : Result WorldStep ObjectWhy → Result WorldOffer ObjectWhy
-only_step (Ok step) = Ok (Only (Steps step))
-only_step (Err why) = Err why
+only_step step = then_try step (λ s. Ok (Only (Steps s)))
 
 -- what an instruction does, up to what it leaves to choose, or the first error that it meets
 unfoldable pub offered : WorldTurn → Instr → Result WorldOffer ObjectWhy

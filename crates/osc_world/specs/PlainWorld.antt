@@ -1,7 +1,6 @@
 -- What an instruction does with numbers alone, over one flat map from address to byte for each process, and
 -- a heap without shadows. This project's own. There are no pages and no permissions in it, and no object.
-use Rattle.std.specs.Prelude.{ℕ, zero, suc, ◌+◌, ◌-◌, ◌*◌, ◌/◌, ◌%◌, ◌==◌, ◌&&◌, min, nat_lt, nat_le, if◌then◌else◌, List, [], ◌∷◌, ◌++◌, length, replicate, slice_get, slice_index, Option, Some, None, unwrap_or}
-use Rattle.std.specs.Option.{option_map}
+use Rattle.std.specs.Prelude.{ℕ, zero, suc, ◌+◌, ◌-◌, ◌*◌, ◌/◌, ◌%◌, ◌==◌, ◌&&◌, min, nat_lt, nat_le, if◌then◌else◌, List, [], ◌∷◌, ◌++◌, length, replicate, slice_get, slice_index, Option, Some, None, is_some, unwrap_or}
 use Rattle.byteorder.specs.Endian.{little_number, little_bytes}
 use Rattle.osc_word.specs.AddressMap.{first_shared_page, first_shadow_page}
 use Rattle.osc_word.specs.Environment.{call_of}
@@ -21,7 +20,7 @@ use Rattle.osc_isa.specs.declared.IntDone.TheVariants as done
 use Rattle.osc_isa.specs.Numbers.{wrapped}
 use Rattle.osc_isa.specs.Integer.{done_of, loaded, load_width}
 use Rattle.osc_isa.specs.Atomic.{width_of, widened, amo_of, sc_success, sc_failure}
-use Rattle.osc_isa.specs.Traps.{Trap, trap_of}
+use Rattle.osc_isa.specs.Traps.{trap_of}
 use Rattle.osc_world.specs.States.{State, HartTurn, changed_at, shared_page_at}
 use Rattle.osc_world.specs.Deeds.{Put, Step, Deed, Kind, Steps, Heaps, Writes, Exits, Leaves, sets, answers, with_memory}
 use Rattle.osc_world.specs.Offers.{Meaning, Goes, Errs, Offer, Only, Grants, Conditional, Never, joins, waits, forks, spawns, shares, write_count}
@@ -165,12 +164,6 @@ flat_after turn flat (Stays user size) = with_given flat flat.held user size (pl
 flat_after turn flat (Moves block user size start) =
     with_given flat (without_block block (held_with flat start size)) (start + 16) size (plain_resized turn user size)
 
-abbrev pub address_after : BlockDeed → ℕ
-address_after (Places size start) = start + 16
-address_after (Releases block) = 0
-address_after (Stays user size) = user
-address_after (Moves block user size start) = start + 16
-
 abbrev pub plain_kind : Kind ℕ ℕ Flat ℕ BlockDeed
 plain_kind =
     record {
@@ -178,30 +171,28 @@ plain_kind =
       nought = 0;
       put = plain_put;
       memory = (λ turn deed. flat_after turn turn.process.memory deed);
-      answer = (λ turn deed. address_after deed);
     }
 
--- memory is given, or the answer is 0; it is stuck where no deed gives memory
-abbrev pub grants_block : PlainTurn → Option BlockDeed → PlainOffer
-grants_block turn None = Grants (Errs NoSlot) (answers turn 0)
-grants_block turn (Some deed) = Grants (Goes (Heaps deed)) (answers turn 0)
+-- the slot for a size, or a refusal, which answers 0; it is stuck where there is no slot
+abbrev pub grants_block : PlainTurn → (ℕ → BlockDeed) → Option ℕ → PlainOffer
+grants_block turn deed None = Grants (Errs NoSlot) (answers turn 0)
+grants_block turn deed (Some start) = Grants (Goes (Heaps (deed start) (start + 16))) (answers turn 0)
 
 -- malloc
 abbrev pub plain_malloc : PlainTurn → Flat → ℕ → PlainOffer
-plain_malloc turn flat size = grants_block turn (option_map (Places size) (next_start flat size))
+plain_malloc turn flat size = grants_block turn (Places size) (next_start flat size)
 
 -- free: the slot is given back at once
 abbrev pub plain_free : PlainTurn → Option Block → PlainDeed
 plain_free turn None = answers turn 0
-plain_free turn (Some block) = Heaps (Releases block)
+plain_free turn (Some block) = Heaps (Releases block) 0
 
 -- realloc of a held block
 abbrev pub plain_replace : PlainTurn → Flat → ℕ → ℕ → Option Block → PlainOffer
 plain_replace turn flat user size None = Never
 plain_replace turn flat user size (Some block) =
-    grants_block turn
-    (if is_room block.room (room_of size) then Some (Stays user size)
-    else option_map (Moves block user size) (next_start flat size))
+    if is_room block.room (room_of size) then Grants (Goes (Heaps (Stays user size) user)) (answers turn 0)
+    else grants_block turn (Moves block user size) (next_start flat size)
 
 abbrev pub plain_realloc : PlainTurn → Flat → ℕ → ℕ → PlainOffer
 plain_realloc turn flat user size =
@@ -244,11 +235,8 @@ plain_offer turn i done.Call = plain_serves turn (call_of turn.hart.regs)
 plain_offer turn i done.Break = Never
 plain_offer turn i (done.BadTarget target) = Never
 
-abbrev pub plain_unless : PlainTurn → Instr → IntDone → Option Trap → PlainOffer
-plain_unless turn i what (Some trap) = Never
-plain_unless turn i what None = plain_offer turn i what
-
 -- what an instruction does, up to what it leaves to choose; nothing where it traps
 unfoldable pub plain_offered : PlainTurn → Instr → PlainOffer
 plain_offered turn i =
-    plain_unless turn i (done_of i turn.hart.regs turn.hart.pc) (trap_of (done_of i turn.hart.regs turn.hart.pc) turn.hart.pc)
+    let what = done_of i turn.hart.regs turn.hart.pc in
+    if is_some (trap_of what turn.hart.pc) then Never else plain_offer turn i what

@@ -1,5 +1,5 @@
 -- The object run: the fold over events from the boot of an image. This project's own.
-use Rattle.std.specs.Prelude.{ℕ, ◌+◌, ◌-◌, ◌*◌, Bool, true, ◌&&◌, List, [], ◌∷◌, ◌++◌, map, replicate, Option, Some, None}
+use Rattle.std.specs.Prelude.{ℕ, ◌+◌, ◌-◌, ◌*◌, Bool, true, ◌&&◌, List, [], ◌∷◌, ◌++◌, map, replicate, Option, Some, None, unwrap_or}
 use Rattle.std.specs.List.{range_with_len}
 use Rattle.osc_word.specs.AddressMap.{first_stack_page, stack_size}
 use Rattle.osc_word.specs.declared.steps.Event.{Event}
@@ -53,16 +53,12 @@ all_fit run (event ∷ events) = fits_after run.error run.world event && all_fit
 
 -- ---- the boot
 
-abbrev pub page_bits : Option PteBits → PteBits
-page_bits None = record { 0 = 0 }
-page_bits (Some bits) = bits
-
 -- a page of the image
 abbrev pub page_of_image : Image → ℕ → Page
 page_of_image image number =
     record {
       number = number;
-      bits = page_bits (bits_at image number);
+      bits = unwrap_or (bits_at image number) (record { 0 = 0 });
       bytes = map (λ address. Number (laid_byte image.segments address)) (range_with_len (4096 * number) 4096);
     }
 
