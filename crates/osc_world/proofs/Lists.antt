@@ -1,5 +1,5 @@
 -- What stands in a list of which an element, or a row of elements, was changed.
-use Rattle.std.proofs.Common.{ℕ, zero, suc, ◌≡◌, ◌≢◌, ◌<◌, ◌≤◌, ◌==◌, ◌+◌, Bool, true, false, cond, List, [], ◌∷◌, Option, Some, None, option_map, arith, refl, ap, sym, ◌∙◌, slice_get, length, length-set, set, take, drop, subst}
+use Rattle.std.proofs.Common.{ℕ, zero, suc, ◌≡◌, ◌≢◌, ◌<◌, ◌≤◌, ◌==◌, ◌+◌, cond, List, [], ◌∷◌, Some, option_map, arith, refl, ap, ◌∙◌, slice_get, length, length-set, take, drop}
 use Rattle.std.specs.Prelude.{slice_set}
 use Rattle.std.proofs.lemmas.Bool.Decides.{nat_tests}
 use Rattle.osc_world.specs.States.{changed_at}

@@ -1,5 +1,5 @@
 -- The output stays within its room.
-use Rattle.std.proofs.Common.{◌≡◌, ℕ, ◌+◌, ◌≤◌, Bool, true, false, List, [], ◌∷◌, ◌++◌, length, length-append, Option, Some, None, Result, Ok, Err, refl, arith, zero, suc, take, drop, subst}
+use Rattle.std.proofs.Common.{◌≡◌, ℕ, ◌+◌, ◌≤◌, List, [], ◌∷◌, length, length-append, Option, Some, None, Result, Ok, Err, refl, arith, zero, suc, take, drop, subst}
 use Rattle.std.specs.Prelude.{ok_or}
 use Rattle.osc_word.specs.Environment.{output_limit}
 use Rattle.osc_word.specs.declared.steps.Choice.{Choice}
@@ -14,12 +14,12 @@ use Rattle.osc_world.specs.declared.ObjectWhy.{ObjectWhy}
 use Rattle.osc_world.specs.declared.ObjectWhy.TheVariants.{PointerBytes}
 use Rattle.osc_world.specs.Values.{numbers_in, advanced}
 use Rattle.osc_world.specs.States.{turn_of}
-use Rattle.osc_world.specs.Deeds.{Deed, Steps, Heaps, Writes, Shares, Forks, Spawns, Exits, Leaves, Step, put_if, state_after}
+use Rattle.osc_world.specs.Deeds.{Steps, Heaps, Writes, Shares, Forks, Spawns, Exits, Leaves, put_if, state_after}
 use Rattle.osc_world.specs.Offers.{Meaning, Goes, Errs, Unfit, then_try, chosen, write_count}
 use Rattle.osc_world.specs.World.{World, WorldTurn, WorldDeed, WorldOffer, WorldPut}
 use Rattle.osc_world.specs.Accesses.{reached_place, row_at, before, loaded_byte, bytes_at, area_bytes, put_in_world}
 use Rattle.osc_world.specs.Instructions.{register_of}
-use Rattle.osc_world.specs.Calls.{write_deed, world_kind}
+use Rattle.osc_world.specs.Calls.{world_kind}
 use Rattle.osc_world.specs.Events.{offered, does_if, meaning_of, meaning_by, meaning, meaning_in, instr_at}
 use Rattle.osc_world.specs.Run.{ObjectRun, judged, judged_as, judged_on, object_run}
 use Rattle.osc_world.proofs.Table.{rows, OfMeaning, OfResult, OfDeed, IsNoWrite, WritesMeet, chosen-of, step-of, conditional-of, calls-of}

@@ -6,7 +6,7 @@ use Rattle.osc_word.specs.declared.steps.Choice.{Choice}
 use Rattle.osc_word.specs.declared.steps.Choice.TheVariants as choice
 use Rattle.osc_word.specs.declared.calls.Call.{Call}
 use Rattle.osc_word.specs.declared.calls.Call.TheVariants as call
-use Rattle.osc_word.specs.Environment.{call_numbered, minus_one}
+use Rattle.osc_word.specs.Environment.{call_numbered}
 use Rattle.osc_sv39.specs.declared.entries.Access.TheVariants as access
 use Rattle.osc_isa.specs.Atomic.{width_of, sc_failure}
 use Rattle.osc_world.specs.declared.Place.{Place}
@@ -19,8 +19,8 @@ use Rattle.osc_world.specs.declared.Value.TheVariants.{Num, Ptr}
 use Rattle.osc_world.specs.declared.ObjectWhy.{ObjectWhy}
 use Rattle.osc_world.specs.declared.ObjectWhy.TheVariants.{BadFree}
 use Rattle.osc_world.specs.States.{Hart}
-use Rattle.osc_world.specs.Deeds.{Deed, Steps, Heaps, Writes, Shares, Forks, Spawns, Exits, Leaves, answers}
-use Rattle.osc_world.specs.Offers.{Meaning, Goes, Errs, Unfit, Offer, Only, Grants, Starts, Conditional, Never, is_idle, chosen, answers_if, shares, thread_value, thread_at, child_value, provided, then_try}
+use Rattle.osc_world.specs.Deeds.{Steps, Heaps, Writes, Shares, Forks, Spawns, Exits, Leaves, answers}
+use Rattle.osc_world.specs.Offers.{Meaning, Goes, Errs, Unfit, Only, Grants, Starts, Conditional, Never, is_idle, chosen, answers_if, shares, provided, then_try}
 use Rattle.osc_world.specs.World.{World, WorldTurn, WorldStep, WorldDeed, WorldOffer, WorldPut, Makes, Kills, Replaces}
 use Rattle.osc_world.specs.Accesses.{aimed, is_storable, puts}
 use Rattle.osc_world.specs.Instructions.{register_of, objects_of, conditional, conditional_step, holds_reservation, succeeds}

@@ -1,6 +1,6 @@
 -- What an event of a world means, and when it fits. RISC-V Unprivileged manual for the instructions; events
 -- are this project's own.
-use Rattle.std.specs.Prelude.{◌+◌, ◌*◌, ◌%◌, ◌==◌, Bool, true, false, Option, Some, None, Result, Ok, Err}
+use Rattle.std.specs.Prelude.{◌+◌, ◌*◌, Bool, true, false, Option, Some, None, Result, Ok, Err}
 use Rattle.osc_word.specs.declared.steps.Choice.{Choice}
 use Rattle.osc_word.specs.declared.steps.Event.{Event}
 use Rattle.osc_sv39.specs.declared.entries.Access.TheVariants as access
@@ -17,7 +17,7 @@ use Rattle.osc_world.specs.declared.ObjectWhy.TheVariants.{Trap}
 use Rattle.osc_world.specs.Values.{advanced}
 use Rattle.osc_world.specs.States.{turn_of}
 use Rattle.osc_world.specs.Deeds.{Steps, sets, state_after}
-use Rattle.osc_world.specs.Offers.{Meaning, Goes, Errs, Unfit, Only, chosen, then_try, provided}
+use Rattle.osc_world.specs.Offers.{Meaning, Goes, Errs, Unfit, Only, chosen, then_try}
 use Rattle.osc_world.specs.World.{World, WorldTurn, WorldStep, WorldDeed, WorldOffer}
 use Rattle.osc_world.specs.Operations.{operated, operated_imm, multiplied, is_taken_for}
 use Rattle.osc_world.specs.Accesses.{aimed, value_at}

@@ -19,7 +19,7 @@ use Rattle.osc_world.specs.declared.Place.{Place}
 use Rattle.osc_world.specs.declared.Reservation.{Reservation}
 use Rattle.osc_world.specs.States.{value_in}
 use Rattle.osc_world.specs.Deeds.{Steps, sets}
-use Rattle.osc_world.specs.Offers.{Meaning, Goes, Errs, Unfit, Offer, Only, Conditional, then_try, provided}
+use Rattle.osc_world.specs.Offers.{Meaning, Goes, Errs, Unfit, Conditional, then_try, provided}
 use Rattle.osc_world.specs.World.{WorldTurn, WorldPut, WorldStep, WorldDeed, WorldOffer, Object}
 use Rattle.osc_world.specs.Operations.{is_amo_operand, amo_value}
 use Rattle.osc_world.specs.Accesses.{aimed, is_same_place, value_at, puts, is_storable}

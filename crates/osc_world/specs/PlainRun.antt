@@ -14,7 +14,7 @@ use Rattle.osc_rv.specs.declared.instr.Instr.{Instr}
 use Rattle.osc_image.specs.Image.{Image, laid_byte}
 use Rattle.osc_world.specs.States.{turn_of, first_state}
 use Rattle.osc_world.specs.Deeds.{state_after}
-use Rattle.osc_world.specs.Offers.{Meaning, Goes, Errs, Unfit, Only, Grants, Starts, Conditional, Never, chosen}
+use Rattle.osc_world.specs.Offers.{Meaning, Goes, Errs, Unfit, Only, chosen}
 use Rattle.osc_world.specs.PlainWorld.{Flat, Want, Plain, PlainTurn, PlainDeed, PlainOffer, plain_number, plain_kind, plain_offered}
 
 -- ---- one event

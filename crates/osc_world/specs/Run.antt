@@ -4,7 +4,6 @@ use Rattle.std.specs.List.{range_with_len}
 use Rattle.osc_word.specs.AddressMap.{first_stack_page, stack_size}
 use Rattle.osc_word.specs.declared.steps.Event.{Event}
 use Rattle.osc_word.specs.declared.settings.Config.{Config}
-use Rattle.osc_sv39.specs.declared.flags.PteBits.{PteBits}
 use Rattle.osc_image.specs.Image.{Image, bits_at, laid_byte, pages}
 use Rattle.osc_world.specs.declared.Value.TheVariants.{Num}
 use Rattle.osc_world.specs.declared.Byte.TheVariants.{Number}

@@ -16,9 +16,9 @@ pub use examples::{
     fork_copies_and_shares, join_gives_the_value, loads_from_nothing_err, misuses_err,
     moves_keep_bytes, parts_err, plain_heap_reads_freed_bytes, plain_pointers_are_canonical,
     plain_runs_fork_and_share, plain_runs_join, plain_runs_write, products_are_of_numbers,
-    programs_have_one_page,
-    refused_calls_answer, runs_start_from_the_boot, second_conditional_traps,
-    stores_and_frees_is_clean, stores_between_end_reservations, writes_append,
+    programs_have_one_page, refused_calls_answer, runs_start_from_the_boot,
+    second_conditional_traps, stores_and_frees_is_clean, stores_between_end_reservations,
+    writes_append,
 };
 pub use objects::{
     dead_objects_refuse, freed_objects_are_dead, inner_pointers_are_not_freed, live_objects_differ,
