@@ -6,3 +6,5 @@ pub mod PlainExamples
 pub mod OnePage
 pub mod Table
 pub mod Output
+pub mod Growth
+pub mod Known

@@ -14,6 +14,7 @@ pub mod Instructions
 pub mod Calls
 pub mod Events
 pub mod Run
+pub mod Knows
 pub mod PlainWorld
 pub mod PlainRun
 pub mod Examples

@@ -9,8 +9,8 @@ ghost use Rattle.osc_word.specs.declared.steps.Choice.{Choice};
 ghost use Rattle.osc_word.specs.declared.steps.Choice.TheVariants.{Plain};
 ghost use Rattle.osc_rv.specs.declared.instr.Instr.{Instr};
 ghost use Rattle.osc_word.specs.Environment.{output_limit};
-ghost use Rattle.osc_world.specs.States.{turn_of};
-ghost use Rattle.osc_world.specs.World.{WorldTurn};
+ghost use Rattle.osc_world.specs.States.{turn_of, Process};
+ghost use Rattle.osc_world.specs.World.{WorldTurn, WorldDeed, Memory};
 ghost use Rattle.osc_world.specs.Deeds.{Forks, state_after};
 ghost use Rattle.osc_world.specs.Offers.{Goes, Errs};
 ghost use Rattle.osc_world.specs.Calls.{world_kind};
@@ -83,4 +83,15 @@ pub fn fork_copies()
     ensures { (turn : WorldTurn) (hart : ℕ)
         → slice_get (state_after world_kind turn (Forks hart)).processes (length turn.state.processes)
         ≡ Some (record { memory = turn.process.memory; shared = turn.process.shared; parent = Some turn.pid; status = None }) }
+{}
+
+/// No deed takes a hart, a process, a thread, a shared page or an object away: an object keeps its number.
+pub fn worlds_only_grow()
+    ensures harts { (turn : WorldTurn) (deed : WorldDeed) → length (state_after world_kind turn deed).harts ≡ length turn.state.harts }
+    ensures processes { (turn : WorldTurn) (deed : WorldDeed) → length turn.state.processes ≤ length (state_after world_kind turn deed).processes }
+    ensures threads { (turn : WorldTurn) (deed : WorldDeed) → length turn.state.threads ≤ length (state_after world_kind turn deed).threads }
+    ensures shared { (turn : WorldTurn) (deed : WorldDeed) → length turn.state.shared ≤ length (state_after world_kind turn deed).shared }
+    ensures objects { (turn : WorldTurn) (deed : WorldDeed) (pid : ℕ) (was now : Process Memory)
+        → slice_get turn.state.processes turn.pid ≡ Some turn.process → slice_get turn.state.processes pid ≡ Some was
+        → slice_get (state_after world_kind turn deed).processes pid ≡ Some now → length was.memory.objects ≤ length now.memory.objects }
 {}
