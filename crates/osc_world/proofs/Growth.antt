@@ -29,14 +29,14 @@ unfolding state_after put_in_world
 shared-after turn deed = grind (arith, nat_tests, length-append {A = List Byte}, length-changed_at {X = List Byte})
 
 -- what stands in a list of which an element was set, or that has one more
-set-get : {X : Type 0} (xs : List X) (i j : ℕ) (y : X) → slice_get (slice_set xs i y) j ≡ cond (j == i) (option_map (λ x. y) (slice_get xs j)) (slice_get xs j)
+pub set-get : {X : Type 0} (xs : List X) (i j : ℕ) (y : X) → slice_get (slice_set xs i y) j ≡ cond (j == i) (option_map (λ x. y) (slice_get xs j)) (slice_get xs j)
 set-get [] i j y = grind (arith, nat_tests)
 set-get (x ∷ xs) zero zero y = refl
 set-get (x ∷ xs) zero (suc j) y = grind (arith, nat_tests)
 set-get (x ∷ xs) (suc i) zero y = grind (arith, nat_tests)
 set-get (x ∷ xs) (suc i) (suc j) y = grind (arith, nat_tests, set-get xs i j y)
 
-append-get : {X : Type 0} (xs : List X) (y x : X) (j : ℕ) → slice_get xs j ≡ Some x → slice_get (xs ++ y ∷ []) j ≡ Some x
+pub append-get : {X : Type 0} (xs : List X) (y x : X) (j : ℕ) → slice_get xs j ≡ Some x → slice_get (xs ++ y ∷ []) j ≡ Some x
 append-get [] y x j e = absurd (cc)
 append-get (z ∷ xs) y x zero e = e
 append-get (z ∷ xs) y x (suc j) e = append-get xs y x j e

@@ -20,15 +20,15 @@ use Rattle.osc_world.proofs.Lists.{length-changed_at, length-overlaid, slice_get
 
 -- ---- lists
 
-and-both : (a b : Bool) → a ≡ true → b ≡ true → (a && b) ≡ true
+pub and-both : (a b : Bool) → a ≡ true → b ≡ true → (a && b) ≡ true
 and-both true b e f = f
 and-both false b e f = e
 
-and-left : (a b : Bool) → (a && b) ≡ true → a ≡ true
+pub and-left : (a b : Bool) → (a && b) ≡ true → a ≡ true
 and-left true b e = refl
 and-left false b e = e
 
-and-right : (a b : Bool) → (a && b) ≡ true → b ≡ true
+pub and-right : (a b : Bool) → (a && b) ≡ true → b ≡ true
 and-right true b e = e
 and-right false b e = absurd (cc)
 
@@ -102,7 +102,7 @@ object-more : (n m : ℕ) (object : Object) → n ≤ m → knows_object n objec
 object-more n m (Live bytes) l e = bytes-more n m bytes l e
 object-more n m (Dead size) l e = refl
 
-left-more : (n m : ℕ) (v : Option Value) → n ≤ m → knows_left n v ≡ true → knows_left m v ≡ true
+pub left-more : (n m : ℕ) (v : Option Value) → n ≤ m → knows_left n v ≡ true → knows_left m v ≡ true
 left-more n m None l e = refl
 left-more n m (Some v) l e = known-more n m v l e
 

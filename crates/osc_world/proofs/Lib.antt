@@ -8,3 +8,4 @@ pub mod Table
 pub mod Output
 pub mod Growth
 pub mod Known
+pub mod KnownDeeds
