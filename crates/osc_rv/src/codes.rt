@@ -5,7 +5,6 @@ ghost use Rattle.osc_rv.specs.Codes.{upper_opcode, branch_funct3, branch_at, loa
 use crate::instr::{
     AmoOp, BranchKind, ImmOp, LoadKind, MulOp, RegOp, ShiftOp, StoreKind, UpperOp, Width,
 };
-use crate::instr::{AmoOp, BranchKind, ImmOp, LoadKind, MulOp, RegOp, ShiftOp, StoreKind, UpperOp, Width};
 
 pub(crate) const LOAD: u32 = 0x03;
 
