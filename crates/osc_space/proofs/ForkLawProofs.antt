@@ -21,7 +21,7 @@ use Rattle.osc_space.specs.ForkLaws.{ForksApart, AreCopies, ForksCopyEach}
 use Rattle.osc_paging.specs.KeptTables.{KeptTables}
 use Rattle.osc_space.proofs.PlanLawProofs.{range_at}
 
-abbrev is_member : ℕ → List ℕ → Bool
+abbrev pub is_member : ℕ → List ℕ → Bool
 is_member frame frames = list_any (λ y. y == frame) frames
 
 -- ---- frames of the machine
@@ -138,7 +138,7 @@ is_free_at free f m =
 named_at : (names : ℕ → ℕ) (count f : ℕ) → f < count → slice_get (map names (range_with_len 0 count)) f ≡ Some (names f)
 named_at names count f l = rw (slice_get-map names (range_with_len 0 count) f) (rw (range_at 0 count f f l (omega arith)) refl)
 
-block_member : (pages : List HeapPage) (page frame : ℕ) → frame_of pages page ≡ Some frame → is_member frame (map heap_frame_of pages) ≡ true
+pub block_member : (pages : List HeapPage) (page frame : ℕ) → frame_of pages page ≡ Some frame → is_member frame (map heap_frame_of pages) ≡ true
 block_member [] page frame e = cc
 block_member (p ∷ pages) page frame e = go (p.page == page) e (block_member pages page frame)
   where
