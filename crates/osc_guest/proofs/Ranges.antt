@@ -124,11 +124,15 @@ range_kept frames h t k s =
       root = λ e. (runs e).1;
       place = had-back frames (told h t).hart.pid (told h t).hart.place ok.1;
       gate = λ frame e. gate-in frames h.place t frame k.place k.gate (sym (told-gate h t) ∙ e);
-      box = (ok.2, ordered-back frames (told h t).hart.held
-        (subst (Ordered frames) (sym (told-order h t)) (order-in frames h.place t (order_in h.held) (ordered frames h.held k.box.1) s)));
+      box = (
+        ok.2,
+        ordered-back frames (told h t).hart.held
+            (subst (Ordered frames) (sym (told-order h t)) (order-in frames h.place t (order_in h.held) (ordered frames h.held k.box.1) s)),
+      );
     }
 
 pub begins_in : BeginsIn
-begins_in frames start s =
-    (record { count = λ e. absurd (let b : ⊥ = grind (arith, e) in b); root = λ e. absurd (let b : ⊥ = grind (arith, e) in b); place = tt; gate = λ frame e. absurd (let b : ⊥ = grind (arith, e) in b); box = (empty-ok (PageIn frames) 0, tt) },
-    record { count = λ e. s.0; root = λ e. s.1; place = tt; gate = λ frame e. absurd (let b : ⊥ = grind (arith, e) in b); box = (empty-ok (PageIn frames) 0, tt) })
+begins_in frames start s = (
+  record { count = λ e. absurd (let b : ⊥ = grind (arith, e) in b); root = λ e. absurd (let b : ⊥ = grind (arith, e) in b); place = tt; gate = λ frame e. absurd (let b : ⊥ = grind (arith, e) in b); box = (empty-ok (PageIn frames) 0, tt) },
+  record { count = λ e. s.0; root = λ e. s.1; place = tt; gate = λ frame e. absurd (let b : ⊥ = grind (arith, e) in b); box = (empty-ok (PageIn frames) 0, tt) },
+)

@@ -21,7 +21,7 @@ use Rattle.osc_space.specs.ForkLaws.{ForksApart, AreCopies, ForksCopyEach}
 use Rattle.osc_paging.specs.KeptTables.{KeptTables}
 use Rattle.osc_space.proofs.PlanLawProofs.{range_at}
 
-abbrev is_member : ℕ → List ℕ → Bool
+abbrev pub is_member : ℕ → List ℕ → Bool
 is_member frame frames = list_any (λ y. y == frame) frames
 
 -- ---- frames of the machine
@@ -138,7 +138,7 @@ is_free_at free f m =
 named_at : (names : ℕ → ℕ) (count f : ℕ) → f < count → slice_get (map names (range_with_len 0 count)) f ≡ Some (names f)
 named_at names count f l = rw (slice_get-map names (range_with_len 0 count) f) (rw (range_at 0 count f f l (omega arith)) refl)
 
-block_member : (pages : List HeapPage) (page frame : ℕ) → frame_of pages page ≡ Some frame → is_member frame (map heap_frame_of pages) ≡ true
+pub block_member : (pages : List HeapPage) (page frame : ℕ) → frame_of pages page ≡ Some frame → is_member frame (map heap_frame_of pages) ≡ true
 block_member [] page frame e = cc
 block_member (p ∷ pages) page frame e = go (p.page == page) e (block_member pages page frame)
   where
@@ -194,10 +194,11 @@ named_pairs : (p q : List ℕ) → AreApart p → Named (name_in (zip p q)) p (z
 named_pairs [] q h = tt
 named_pairs (x ∷ p) [] h = tt
 named_pairs (x ∷ p) (y ∷ q) h =
-    let e : (x == x) ≡ true = grind (arith, nat_tests) in
-    (ap (λ b. option_map_or (λ (c : ℕ × ℕ). c.1) (cond b (Some (x, y)) (find (λ (c : ℕ × ℕ). c.0 == x) (zip p q))) x) e,
-    grind (arith, nat_tests),
-    named_past x y p (zip p q) (zip p q) h.0 (named_pairs p q h.1))
+    let e : (x == x) ≡ true = grind (arith, nat_tests) in (
+      ap (λ b. option_map_or (λ (c : ℕ × ℕ). c.1) (cond b (Some (x, y)) (find (λ (c : ℕ × ℕ). c.0 == x) (zip p q))) x) e,
+      grind (arith, nat_tests),
+      named_past x y p (zip p q) (zip p q) h.0 (named_pairs p q h.1),
+    )
 
 only_copies : (s : Space) (count : ℕ) (f : Forked) (names : ℕ → ℕ) (p : List ℕ) (cs : List (ℕ × ℕ)) → ((x : ℕ) → is_member x p ≡ true → (x < count) × (is_private s x ≡ true) × (slice_get f.names x ≡ Some (names x))) → Named names p cs → AreCopies s count f (map (copy_job s.tables) cs)
 only_copies s count f names p [] h n = tt
@@ -229,10 +230,10 @@ forks_copy_each s free h =
     let names = name_in (zip p q) in
     let member : (f : ℕ) → is_member f p ≡ (is_private s f && is_within 0 (0 + count) f) = member_filter (is_private s) 0 count in
     let known : (x : ℕ) → is_member x p ≡ true → (x < count) × (is_private s x ≡ true) × (slice_get (map names (range_with_len 0 count)) x ≡ Some (names x)) =
-        λ x m.
-            let e = member x in
-            let l : x < count = grind (arith, nat_tests, e, m) in
-            (l, grind (arith, nat_tests, e, m), named_at names count x l) in
+    λ x m.
+    let e = member x in
+    let l : x < count = grind (arith, nat_tests, e, m) in
+    (l, grind (arith, nat_tests, e, m), named_at names count x l) in
     let at : (f to : ℕ) → f < count → slice_get (map names (range_with_len 0 count)) f ≡ Some to → names f ≡ to = λ f to l e. let g = named_at names count f l in cc in
     record {
       names = length-map (range_with_len 0 count) names ∙ length-range_with_len 0 count;

@@ -3,4 +3,5 @@ pub mod RefusalLawProofs
 pub mod ObjectLawProofs
 pub mod WordLawProofs
 pub mod ForkLawProofs
+pub mod ForkAgreeProofs
 pub mod AgreeExampleProofs

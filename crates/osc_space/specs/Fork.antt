@@ -58,12 +58,12 @@ set_free is_free (frame ∷ frames) free = set_free is_free frames (slice_set fr
 abbrev pub copies : Space → List Bool → List (ℕ × ℕ)
 copies s free = zip (private_frames s (length free)) (free_numbers free)
 
+abbrev pub copy_by : Bool → ℕ × ℕ → Job
+copy_by true c = CopyTable c.0 c.1
+copy_by false c = CopyWords (record { frame = c.0; index = 0 }) (record { frame = c.1; index = 0 }) 512
+
 abbrev pub copy_job : KeptTables → ℕ × ℕ → Job
-copy_job t c = job_by (is_some (piece_of t.tables c.0)) c
-  where
-    job_by : Bool → ℕ × ℕ → Job
-    job_by true c = CopyTable c.0 c.1
-    job_by false c = CopyWords (record { frame = c.0; index = 0 }) (record { frame = c.1; index = 0 }) 512
+copy_job t c = copy_by (is_some (piece_of t.tables c.0)) c
 
 -- a frame that is not copied stands for itself
 abbrev pub name_in : List (ℕ × ℕ) → ℕ → ℕ

@@ -20,6 +20,7 @@ pub mod WordLaws
 pub mod RefusalLaws
 pub mod PlanLaws
 pub mod ForkLaws
+pub mod ForkAgrees
 pub mod Examples
 pub mod BatchExamples
 pub mod AgreeExamples

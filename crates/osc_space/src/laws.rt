@@ -14,7 +14,8 @@ ghost use Rattle.osc_space.specs.RefusalLaws.{PlansGoByReasons, RefusalsKeep, Re
 ghost use Rattle.osc_space.specs.PlanLaws.{MarkNeverFalls, ClearsEachBox, FreesWait, BatchesOfOneFlush, ReallocsFlush, FlushesEnd, FlushGivesUp, AddressesAreFresh};
 ghost use Rattle.osc_space.specs.WordLaws.{StretchesCut, NoPieceCrosses, BlockJobsStay};
 ghost use Rattle.osc_space.specs.ForkLaws.{ForksApart, ForksCopyEach};
-ghost use Rattle.osc_space.specs.ObjectLaws.{GrantsKeep, PagesAreGrantedOnce, DeadLeavesAreDead};
+ghost use Rattle.osc_space.specs.ForkAgrees.{ForksAgree};
+ghost use Rattle.osc_space.specs.ObjectLaws.{GrantsKeep, PagesAreGrantedOnce, LooksFindObjects, DeadLeavesAreDead};
 
 /// A plan answers the first of its reasons that holds and changes nothing then; where none holds it
 /// is done.
@@ -47,6 +48,12 @@ pub fn grants_keep()
 #[tactic(auto, using(crate::proofs::ObjectLawProofs::pages_are_granted_once))]
 pub fn pages_are_granted_once()
     ensures { PagesAreGrantedOnce }
+{}
+
+/// A look finds each object by its address and on each of its pages, gives no other, and finds none at
+/// the address 0.
+pub fn looks_find_objects()
+    ensures { LooksFindObjects }
 {}
 
 /// A leaf table is dead exactly where each page under it was granted and has no live owner.
@@ -109,6 +116,12 @@ pub fn forks_share_no_private_frame()
 /// The jobs of a fork are the copies of its private frames: each of them, and nothing else.
 pub fn forks_copy_each_private_frame()
     ensures { ForksCopyEach }
+{}
+
+/// Where the parts of a process agree, and its tables with the words, the words after a fork's jobs
+/// agree with the parent's tables and with the child's.
+pub fn forks_agree()
+    ensures { ForksAgree }
 {}
 
 /// Where no leaf table was given up, a process uses the tables that an image's own count has.

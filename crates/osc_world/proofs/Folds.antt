@@ -5,13 +5,13 @@ use Rattle.osc_word.specs.declared.steps.Event.{Event}
 use Rattle.osc_world.specs.declared.ObjectWhy.{ObjectWhy}
 use Rattle.osc_world.specs.declared.ObjectWhy.TheVariants.{Trap}
 use Rattle.osc_world.specs.World.{World}
-use Rattle.osc_world.specs.Instructions.{Meaning, Goes, Errs, Unfit}
+use Rattle.osc_world.specs.Offers.{Meaning, Goes, Errs, Unfit}
 use Rattle.osc_world.specs.Events.{is_meaning, meaning, fits}
 use Rattle.osc_world.specs.Run.{ObjectRun, judged_as, judged, object_run, all_fit, fits_after}
 use Rattle.osc_world.specs.PlainWorld.{Plain}
 use Rattle.osc_world.specs.PlainRun.{plain_run, plain_meaning}
 
-unfit-trap : (world : World) (events : ℕ) (m : Meaning) → is_meaning m ≡ false → judged_as world events m ≡ record { world = world; events = events; error = Some Trap }
+unfit-trap : (world : World) (events : ℕ) (m : Meaning World ObjectWhy) → is_meaning m ≡ false → judged_as world events m ≡ record { world = world; events = events; error = Some Trap }
 unfit-trap world events (Goes now) e = absurd (true≢false e)
 unfit-trap world events (Errs why) e = absurd (true≢false e)
 unfit-trap world events Unfit e = refl

@@ -1,7 +1,11 @@
 pub mod Folds
+pub mod Lists
 pub mod Bytes
 pub mod EmptyHeap
 pub mod PlainExamples
 pub mod OnePage
-pub mod Choices
+pub mod Table
 pub mod Output
+pub mod Growth
+pub mod Known
+pub mod KnownDeeds

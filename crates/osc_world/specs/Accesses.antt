@@ -1,110 +1,101 @@
 -- An access to the bytes of a world, and the first error that it meets. This project's own; alignment is
 -- that of the RISC-V Unprivileged manual, "Load and Store Instructions" and "A Extension for Atomic
 -- Instructions". That a misaligned access always traps is this project's choice of what those allow.
-use Rattle.std.specs.Prelude.{ℕ, zero, suc, ◌+◌, ◌-◌, ◌/◌, ◌%◌, Bool, true, false, ◌&&◌, ◌==◌, nat_le, if◌then◌else◌, List, [], ◌++◌, take, drop, length, position, slice_get, slice_set, map, Option, Some, None, unwrap_or, ok_or, Result, Ok, Err}
+use Rattle.std.specs.Prelude.{ℕ, zero, suc, ◌+◌, ◌/◌, ◌%◌, Bool, true, false, ◌&&◌, ◌==◌, nat_le, if◌then◌else◌, List, [], ◌∷◌, ◌++◌, take, drop, length, find, slice_get, slice_set, map, Option, Some, None, unwrap_or, ok_or, Result, Ok, Err}
 use Rattle.osc_sv39.specs.declared.entries.Access.{Access}
 use Rattle.osc_sv39.specs.declared.entries.Access.TheVariants.{Fetch, Load, Store}
+use Rattle.osc_sv39.specs.declared.flags.PteBits.{PteBits}
 use Rattle.osc_sv39.specs.Entries.{is_readable, is_writable, is_executable}
 use Rattle.osc_world.specs.declared.Value.{Value}
 use Rattle.osc_world.specs.declared.Value.TheVariants.{Num, Ptr}
 use Rattle.osc_world.specs.declared.Byte.{Byte}
 use Rattle.osc_world.specs.declared.ObjectWhy.{ObjectWhy}
-use Rattle.osc_world.specs.declared.ObjectWhy.TheVariants.{DeadObject, Outside, PointerBytes, PointerShared}
+use Rattle.osc_world.specs.declared.ObjectWhy.TheVariants.{Trap, PointerUse, DeadObject, Outside, PointerBytes, PointerShared}
 use Rattle.osc_world.specs.declared.Area.{Area}
 use Rattle.osc_world.specs.declared.Area.TheVariants as area
 use Rattle.osc_world.specs.declared.Place.{Place}
 use Rattle.osc_world.specs.declared.Reservation.{Reservation}
-use Rattle.osc_world.specs.Values.{moved, is_pointer, gather, spread}
-use Rattle.osc_world.specs.States.{Process, Hart, shared_start}
-use Rattle.osc_world.specs.World.{World, WorldTurn, Memory, Object, Live, Dead, Page}
-
--- the next check, unless there was an error
-abbrev pub then_try : {A B : Type 0} → Result A ObjectWhy → (A → Result B ObjectWhy) → Result B ObjectWhy
-then_try (Ok value) next = next value
-then_try (Err why) next = Err why
-
--- the next check, where a test holds
-abbrev pub provided : {A : Type 0} → Bool → ObjectWhy → Result A ObjectWhy → Result A ObjectWhy
-provided test why next = if test then next else Err why
-
-abbrev pub place : Area → ℕ → Place
-place area offset = record { area = area; offset = offset }
+use Rattle.osc_world.specs.Values.{advanced, is_pointer_value, gather, spread}
+use Rattle.osc_world.specs.States.{Process, Hart, changed_at, shared_page_at}
+use Rattle.osc_world.specs.Deeds.{with_memory}
+use Rattle.osc_world.specs.Offers.{then_try, provided}
+use Rattle.osc_world.specs.World.{World, WorldTurn, WorldPut, Memory, Object, Live, Dead, Page, read_write}
 
 -- ---- where an access begins
 
+abbrev pub in_area : Area → ℕ → Place
+in_area area offset = record { area = area; offset = offset }
+
+abbrev pub memory_page : List Page → ℕ → Option Page
+memory_page pages number = find (λ (page : Page). page.number == number) pages
+
+-- a place of numbered memory, and what it allows
+pub record NumberedPlace : Type 0 where
+  pub place : Place
+  pub bits : PteBits
+
+-- a page of image or stack, else a shared page, which is read and written
+abbrev pub numbered_in : Option Page → Option ℕ → ℕ → Option NumberedPlace
+numbered_in (Some page) shared offset = Some (record { place = in_area (area.Page page.number) offset; bits = page.bits })
+numbered_in None (Some page) offset = Some (record { place = in_area (area.Shared page) offset; bits = read_write })
+numbered_in None None offset = None
+
+abbrev pub numbered_at : Process Memory → ℕ → Option NumberedPlace
+numbered_at process address =
+    numbered_in (memory_page process.memory.pages (address / 4096)) (shared_page_at process.shared address) (address % 4096)
+
 -- whether permissions let an access pass
-abbrev pub lets : Access → ℕ → Bool
-lets Fetch bits = is_executable bits
-lets Load bits = is_readable bits
-lets Store bits = is_writable bits
+abbrev pub lets : Access → PteBits → Bool
+lets Fetch bits = is_executable bits.0
+lets Load bits = is_readable bits.0
+lets Store bits = is_writable bits.0
 
--- whether this is the page of a number, and lets the access pass
-abbrev pub is_open : Access → ℕ → Page → Bool
-is_open access number page = page.number == number && lets access page.bits.0
-
--- shared pages are read and written
-abbrev pub lets_shared : Access → Bool
-lets_shared Fetch = false
-lets_shared Load = true
-lets_shared Store = true
-
--- a shared page of the process, by its place among them
-abbrev pub shared_place : ℕ → Option ℕ → Result Place ObjectWhy
-shared_place offset None = Err Outside
-shared_place offset (Some page) = Ok (place (area.Shared page) offset)
-
--- a shared page of the process, by the address
-abbrev pub shared_place_at : List ℕ → Access → ℕ → Result Place ObjectWhy
-shared_place_at shared access address =
-    provided (lets_shared access && nat_le shared_start address) Outside
-    (shared_place (address % 4096) (slice_get shared ((address - shared_start) / 4096)))
-
--- a page of image or stack, else a shared page
-abbrev pub page_or_shared : Option ℕ → List ℕ → Access → ℕ → Result Place ObjectWhy
-page_or_shared (Some page) shared access address = Ok (place (area.Page page) (address % 4096))
-page_or_shared None shared access address = shared_place_at shared access address
-
--- where an access by a number begins, if memory allows it
-abbrev pub numbered_place : Process Memory → Access → ℕ → Result Place ObjectWhy
-numbered_place process access address =
-    page_or_shared (position (is_open access (address / 4096)) process.memory.pages) process.shared access address
+abbrev pub allowed_place : Access → Option NumberedPlace → Result Place ObjectWhy
+allowed_place access None = Err Outside
+allowed_place access (Some found) = provided (lets access found.bits) Outside (Ok found.place)
 
 -- where an access of this width by a pointer begins: the object lives, and has all the bytes
-abbrev pub place_in : ℕ → ℕ → ℕ → Option Object → Result Place ObjectWhy
-place_in object offset width None = Err Outside
-place_in object offset width (Some (Dead size)) = Err DeadObject
-place_in object offset width (Some (Live bytes)) =
-    provided (nat_le (offset + width) (length bytes)) Outside (Ok (place (area.Object object) offset))
+abbrev pub object_place : ℕ → ℕ → ℕ → Option Object → Result Place ObjectWhy
+object_place object offset width None = Err Outside
+object_place object offset width (Some (Dead size)) = Err DeadObject
+object_place object offset width (Some (Live bytes)) =
+    provided (nat_le (offset + width) (length bytes)) Outside (Ok (in_area (area.Object object) offset))
 
 -- where an aligned access of this width begins
-abbrev pub reached : Process Memory → Access → ℕ → Value → Result Place ObjectWhy
-reached process access width (Num address) = numbered_place process access address
-reached process access width (Ptr object offset) = place_in object offset width (slice_get process.memory.objects object)
+unfoldable pub reached_place : Process Memory → Access → ℕ → Value → Result Place ObjectWhy
+reached_place process access width (Num address) = allowed_place access (numbered_at process address)
+reached_place process access width (Ptr object offset) = object_place object offset width (slice_get process.memory.objects object)
 
 -- whether the address, or the offset of a pointer, is divisible by the width
 abbrev pub is_aligned : ℕ → Value → Bool
 is_aligned width (Num address) = address % width == 0
 is_aligned width (Ptr object offset) = offset % width == 0
 
+-- where an access begins, whose operand in a register may be what it is
+abbrev pub aimed : WorldTurn → Access → ℕ → Value → Bool → Result Place ObjectWhy
+aimed turn access width address takes_operand =
+    provided (is_aligned width address) Trap
+    (provided takes_operand PointerUse (reached_place turn.process access width address))
+
 -- ---- what stands there
 
-abbrev pub bytes_of_object : Option Object → List Byte
-bytes_of_object (Some (Live bytes)) = bytes
-bytes_of_object (Some (Dead size)) = []
-bytes_of_object None = []
+abbrev pub object_bytes : Option Object → List Byte
+object_bytes (Some (Live bytes)) = bytes
+object_bytes (Some (Dead size)) = []
+object_bytes None = []
 
-abbrev pub bytes_of_page : Option Page → List Byte
-bytes_of_page (Some page) = page.bytes
-bytes_of_page None = []
+abbrev pub page_bytes : Option Page → List Byte
+page_bytes (Some page) = page.bytes
+page_bytes None = []
 
--- the bytes of an area, as a turn's process reaches them
-abbrev pub area_bytes : WorldTurn → Area → List Byte
-area_bytes turn (area.Object object) = bytes_of_object (slice_get turn.process.memory.objects object)
-area_bytes turn (area.Page page) = bytes_of_page (slice_get turn.process.memory.pages page)
-area_bytes turn (area.Shared page) = unwrap_or (slice_get turn.state.shared page) []
+-- the bytes of an area, of a world's shared pages and a process's own memory
+abbrev pub area_bytes : List (List Byte) → Memory → Area → List Byte
+area_bytes shared memory (area.Object object) = object_bytes (slice_get memory.objects object)
+area_bytes shared memory (area.Page page) = page_bytes (memory_page memory.pages page)
+area_bytes shared memory (area.Shared page) = unwrap_or (slice_get shared page) []
 
 abbrev pub bytes_at : WorldTurn → Place → ℕ → List Byte
-bytes_at turn at width = take width (drop at.offset (area_bytes turn at.area))
+bytes_at turn at width = take width (drop at.offset (area_bytes turn.state.shared turn.process.memory at.area))
 
 -- the value that stands there
 abbrev pub value_at : WorldTurn → Place → ℕ → Result Value ObjectWhy
@@ -112,30 +103,32 @@ value_at turn at width = ok_or (gather (bytes_at turn at width)) PointerBytes
 
 -- ---- what a store makes of it
 
--- bytes with others in the place of those from an offset on
-abbrev pub overlaid : {B : Type 0} → List B → ℕ → List B → List B
-overlaid bytes offset others = take offset bytes ++ (others ++ drop (offset + length others) bytes)
+-- bytes with others in the place of those from an offset on; there are no more and no fewer
+unfoldable pub overlaid : {B : Type 0} → List B → ℕ → List B → List B
+overlaid bytes offset [] = bytes
+overlaid bytes offset (other ∷ others) = overlaid (slice_set bytes offset other) (offset + 1) others
 
-abbrev pub object_overlaid : Option Object → ℕ → List Byte → Object
-object_overlaid object offset others = Live (overlaid (bytes_of_object object) offset others)
+-- a dead object has no bytes, and stays dead
+abbrev pub object_overlaid : ℕ → List Byte → Object → Object
+object_overlaid offset others (Live bytes) = Live (overlaid bytes offset others)
+object_overlaid offset others (Dead size) = Dead size
 
-abbrev pub page_overlaid : List Page → ℕ → ℕ → List Byte → Option Page → List Page
-page_overlaid pages at offset others None = pages
-page_overlaid pages at offset others (Some page) =
-    slice_set pages at (record page { bytes = overlaid page.bytes offset others })
+abbrev pub page_overlaid : ℕ → ℕ → List Byte → Page → Page
+page_overlaid number offset others page =
+    if page.number == number then record page { bytes = overlaid page.bytes offset others } else page
 
 abbrev pub memory_overlaid : Memory → Area → ℕ → List Byte → Memory
 memory_overlaid memory (area.Object object) offset others =
-    record memory { objects = slice_set memory.objects object (object_overlaid (slice_get memory.objects object) offset others) }
+    record memory { objects = changed_at (object_overlaid offset others) memory.objects object }
 memory_overlaid memory (area.Page page) offset others =
-    record memory { pages = page_overlaid memory.pages page offset others (slice_get memory.pages page) }
+    record memory { pages = map (page_overlaid page offset others) memory.pages }
 memory_overlaid memory (area.Shared page) offset others = memory
 
 abbrev pub shared_overlaid : List (List Byte) → Area → ℕ → List Byte → List (List Byte)
 shared_overlaid shared (area.Object object) offset others = shared
 shared_overlaid shared (area.Page page) offset others = shared
 shared_overlaid shared (area.Shared page) offset others =
-    slice_set shared page (overlaid (unwrap_or (slice_get shared page) []) offset others)
+    changed_at (λ bytes. overlaid bytes offset others) shared page
 
 -- whether an area of one process is an area of another; a shared page is one for all
 abbrev pub is_same_area : ℕ → Area → ℕ → Area → Bool
@@ -161,30 +154,24 @@ abbrev pub disturbed : ℕ → Place → Hart Value → Hart Value
 disturbed pid at hart =
     if is_reserved_word pid at hart.process hart.reservation then record hart { reservation = None } else hart
 
--- the world after a store of bytes at a place; the storing hart itself is still to go on
-abbrev pub stored : WorldTurn → Place → List Byte → World
-stored turn at bytes =
-    record (turn.state) {
-      shared = shared_overlaid turn.state.shared at.area at.offset bytes;
-      processes = slice_set turn.state.processes turn.pid
-          (record (turn.process) { memory = memory_overlaid turn.process.memory at.area at.offset bytes });
-      harts = map (disturbed turn.pid at) turn.state.harts;
+-- the world after a store; the storing hart itself is still to go on
+unfoldable pub put_in_world : WorldTurn → WorldPut → World
+put_in_world turn put =
+    record (with_memory turn (memory_overlaid turn.process.memory put.at.area put.at.offset put.bytes)) {
+      shared = shared_overlaid turn.state.shared put.at.area put.at.offset put.bytes;
+      harts = map (disturbed turn.pid put.at) turn.state.harts;
     }
 
-abbrev pub is_shared : Area → Bool
-is_shared (area.Object object) = false
-is_shared (area.Page page) = false
-is_shared (area.Shared page) = true
+abbrev pub is_shared_area : Area → Bool
+is_shared_area (area.Object object) = false
+is_shared_area (area.Page page) = false
+is_shared_area (area.Shared page) = true
 
-abbrev pub bytes_or_none : Option (List Byte) → List Byte
-bytes_or_none None = []
-bytes_or_none (Some bytes) = bytes
-
--- a store of a value that its width takes
-abbrev pub stores_at : WorldTurn → Place → ℕ → Value → Result World ObjectWhy
-stores_at turn at width value =
-    if is_pointer value && is_shared at.area then Err PointerShared
-    else Ok (stored turn at (bytes_or_none (spread width value)))
+-- the store of a value that its width takes
+abbrev pub puts : Place → ℕ → Value → Result WorldPut ObjectWhy
+puts at width value =
+    if is_pointer_value value && is_shared_area at.area then Err PointerShared
+    else Ok (record { at = at; bytes = spread width value })
 
 -- whether a store of this width takes the value
 abbrev pub is_storable : ℕ → Value → Bool
@@ -194,9 +181,8 @@ is_storable width (Ptr object offset) = width == 8
 -- ---- rows of bytes
 
 -- the byte at an address that a load reaches
-abbrev pub byte_at : WorldTurn → Value → Result (List Byte) ObjectWhy
-byte_at turn address =
-    then_try (reached turn.process Load 1 address) (λ at. Ok (bytes_at turn at 1))
+abbrev pub loaded_byte : WorldTurn → Value → Result (List Byte) ObjectWhy
+loaded_byte turn address = then_try (reached_place turn.process Load 1 address) (λ at. Ok (bytes_at turn at 1))
 
 abbrev pub before : Result (List Byte) ObjectWhy → Result (List Byte) ObjectWhy → Result (List Byte) ObjectWhy
 before first rest = then_try first (λ bytes. then_try rest (λ more. Ok (bytes ++ more)))
@@ -204,4 +190,4 @@ before first rest = then_try first (λ bytes. then_try rest (λ more. Ok (bytes 
 -- so many bytes from an address on, where a load reaches all of them
 unfoldable pub row_at : WorldTurn → ℕ → Value → Result (List Byte) ObjectWhy
 row_at turn zero address = Ok []
-row_at turn (suc count) address = before (byte_at turn address) (row_at turn count (moved address 1))
+row_at turn (suc count) address = before (loaded_byte turn address) (row_at turn count (advanced address 1))

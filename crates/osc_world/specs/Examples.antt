@@ -13,6 +13,7 @@ use Rattle.osc_rv.specs.declared.instr.Instr.{Instr}
 use Rattle.osc_rv.specs.declared.instr.Instr.TheVariants as instr
 use Rattle.osc_rv.specs.declared.instr.ImmOp.TheVariants.{Addi}
 use Rattle.osc_rv.specs.declared.instr.RegOp.TheVariants.{Add}
+use Rattle.osc_rv.specs.declared.instr.MulOp.TheVariants as mul_op
 use Rattle.osc_rv.specs.declared.instr.BranchKind.TheVariants.{Bne}
 use Rattle.osc_rv.specs.declared.instr.UpperOp.TheVariants.{Lui}
 use Rattle.osc_rv.specs.declared.instr.LoadKind.TheVariants.{Lb, Ld}
@@ -67,7 +68,7 @@ abbrev pub image_of_program : List Instr → Image
 image_of_program program = image_with (code_of program)
 
 abbrev pub config_of : ℕ → Config
-config_of harts = record { heap = Oscar; harts = harts; processes = 16; frames = 1024; shadows = 65536; journal = 65536 }
+config_of harts = record { heap = Oscar; harts = harts; processes = 16; frames = 1024; shadows = 65536; journal = 65536; levels = 3; batch = 1 }
 
 abbrev pub event : ℕ → Choice → Event
 event hart choice = record { hart = hart; choice = choice }
@@ -99,22 +100,22 @@ plain_status state = option_and_then (λ now. status_of now) state
 -- ---- objects
 
 -- malloc of a size, its pointer in s0
-abbrev pub mallocs : ℕ → List Instr
-mallocs size = (addi 10 0 size ∷ call 3) ++ addi 8 10 0 ∷ []
+abbrev pub code_of_malloc : ℕ → List Instr
+code_of_malloc size = (addi 10 0 size ∷ call 3) ++ addi 8 10 0 ∷ []
 
 abbrev pub malloc_events : List Event
 malloc_events = steps 0 1 ++ chooses 0 Given ++ steps 0 1
 
 -- free of what s0 points to
-abbrev pub frees : List Instr
-frees = addi 10 8 0 ∷ call 4
+abbrev pub code_of_free : List Instr
+code_of_free = addi 10 8 0 ∷ call 4
 
 abbrev pub free_events : List Event
 free_events = steps 0 3
 
 -- malloc(24), a store of 9, a load, free, exit with the answer of free
 abbrev pub stores_and_frees : List Instr
-stores_and_frees = mallocs 24 ++ (addi 5 0 9 ∷ sd 5 8 0 ∷ ld 6 8 0 ∷ []) ++ frees ++ call 1
+stores_and_frees = code_of_malloc 24 ++ (addi 5 0 9 ∷ sd 5 8 0 ∷ ld 6 8 0 ∷ []) ++ code_of_free ++ call 1
 
 abbrev pub stores_and_frees_events : List Event
 stores_and_frees_events = malloc_events ++ steps 0 3 ++ free_events ++ steps 0 2
@@ -125,52 +126,60 @@ loads_from_nothing = (addi 10 0 0 ∷ call 3) ++ (ld 5 10 0 ∷ addi 10 0 0 ∷ 
 
 -- malloc(24), free, and a load at offset 8
 abbrev pub loads_after_free : List Instr
-loads_after_free = mallocs 24 ++ frees ++ ld 6 8 8 ∷ []
+loads_after_free = code_of_malloc 24 ++ code_of_free ++ ld 6 8 8 ∷ []
 
 -- malloc(24), free, free
 abbrev pub frees_twice : List Instr
-frees_twice = mallocs 24 ++ frees ++ frees
+frees_twice = code_of_malloc 24 ++ code_of_free ++ code_of_free
 
 -- malloc(24), free of the pointer plus 16
 abbrev pub frees_inside : List Instr
-frees_inside = mallocs 24 ++ (addi 10 8 16 ∷ call 4)
+frees_inside = code_of_malloc 24 ++ (addi 10 8 16 ∷ call 4)
 
 -- malloc(24), and a store into its header
 abbrev pub stores_before : List Instr
-stores_before = mallocs 24 ++ (addi 5 0 9 ∷ sd 5 8 (minus 8) ∷ [])
+stores_before = code_of_malloc 24 ++ (addi 5 0 9 ∷ sd 5 8 (minus 8) ∷ [])
 
 -- realloc of what s0 points to, its pointer in s0
-abbrev pub reallocs : ℕ → List Instr
-reallocs size = (addi 10 8 0 ∷ addi 11 0 size ∷ call 5) ++ addi 8 10 0 ∷ []
+abbrev pub code_of_realloc : ℕ → List Instr
+code_of_realloc size = (addi 10 8 0 ∷ addi 11 0 size ∷ call 5) ++ addi 8 10 0 ∷ []
 
 abbrev pub realloc_events : List Event
 realloc_events = steps 0 2 ++ chooses 0 Given ++ steps 0 1
 
 -- malloc(24), the pointer also in s1, a store of 9, realloc to 30 and to 10, and exit with what it holds
 abbrev pub moves : List Instr
-moves = mallocs 24 ++ (addi 9 8 0 ∷ addi 5 0 9 ∷ sd 5 8 0 ∷ []) ++ reallocs 30 ++ reallocs 10 ++ (ld 10 8 0 ∷ call 1)
+moves = code_of_malloc 24 ++ (addi 9 8 0 ∷ addi 5 0 9 ∷ sd 5 8 0 ∷ []) ++ code_of_realloc 30 ++ code_of_realloc 10 ++ (ld 10 8 0 ∷ call 1)
 
 abbrev pub moves_events : List Event
 moves_events = malloc_events ++ steps 0 3 ++ realloc_events ++ realloc_events ++ steps 0 3
 
 -- the same, and a load through the first pointer
 abbrev pub loads_after_move : List Instr
-loads_after_move = mallocs 24 ++ (addi 9 8 0 ∷ addi 5 0 9 ∷ sd 5 8 0 ∷ []) ++ reallocs 30 ++ ld 6 9 0 ∷ []
+loads_after_move = code_of_malloc 24 ++ (addi 9 8 0 ∷ addi 5 0 9 ∷ sd 5 8 0 ∷ []) ++ code_of_realloc 30 ++ ld 6 9 0 ∷ []
 
 -- malloc(24), a pointer stored in it, and a load of one byte of that
 abbrev pub loads_a_part : List Instr
-loads_a_part = mallocs 24 ++ (sd 8 8 0 ∷ ld 9 8 0 ∷ instr.Load Lb 5 8 3 ∷ [])
+loads_a_part = code_of_malloc 24 ++ (sd 8 8 0 ∷ ld 9 8 0 ∷ instr.Load Lb 5 8 3 ∷ [])
+
+-- 6 times 7, and exit with the product
+abbrev pub multiplies : List Instr
+multiplies = (addi 5 0 6 ∷ addi 6 0 7 ∷ instr.Mul mul_op.Mul 10 5 6 ∷ []) ++ call 1
+
+-- malloc(24), and its pointer multiplied by 7
+abbrev pub multiplies_pointer : List Instr
+multiplies_pointer = code_of_malloc 24 ++ (addi 6 0 7 ∷ instr.Mul mul_op.Mul 5 8 6 ∷ [])
 
 -- ---- harts and processes
 
 -- malloc(8), load-reserved and twice store-conditional
-abbrev pub reserves : List Instr
-reserves = mallocs 8 ++ (instr.Lr D 5 8 false false ∷ instr.Sc D 6 8 0 false false ∷ instr.Sc D 7 8 0 false false ∷ [])
+abbrev pub reserves_once : List Instr
+reserves_once = code_of_malloc 8 ++ (instr.Lr D 5 8 false false ∷ instr.Sc D 6 8 0 false false ∷ instr.Sc D 7 8 0 false false ∷ [])
 
 -- malloc(8), a thread that stores there, a load-reserved and a store-conditional
 abbrev pub reserves_beside : List Instr
 reserves_beside =
-    mallocs 8 ++ (instr.Upper Lui 10 16 ∷ addi 10 10 48 ∷ addi 11 0 0 ∷ addi 12 8 0 ∷ call 7)
+    code_of_malloc 8 ++ (instr.Upper Lui 10 16 ∷ addi 10 10 48 ∷ addi 11 0 0 ∷ addi 12 8 0 ∷ call 7)
     ++ (instr.Lr D 5 8 false false ∷ instr.Sc D 6 8 0 false false ∷ sd 0 10 0 ∷ [])
 
 -- up to the load-reserved
@@ -210,10 +219,10 @@ abbrev pub until_thread_is_done : List Event
 until_thread_is_done = before_thread_is_done ++ steps 1 1
 
 -- malloc(24), bytes h and i, a write of both, free, and a write of no bytes of the dead object
-abbrev pub writes : List Instr
-writes =
-    mallocs 24 ++ (addi 5 0 104 ∷ instr.Store Sb 8 5 0 ∷ addi 5 0 105 ∷ instr.Store Sb 8 5 1 ∷ [])
-    ++ (addi 10 8 0 ∷ addi 11 0 2 ∷ call 2) ++ frees ++ (addi 10 8 0 ∷ addi 11 0 0 ∷ call 2)
+abbrev pub writes_two_bytes : List Instr
+writes_two_bytes =
+    code_of_malloc 24 ++ (addi 5 0 104 ∷ instr.Store Sb 8 5 0 ∷ addi 5 0 105 ∷ instr.Store Sb 8 5 1 ∷ [])
+    ++ (addi 10 8 0 ∷ addi 11 0 2 ∷ call 2) ++ code_of_free ++ (addi 10 8 0 ∷ addi 11 0 0 ∷ call 2)
 
 abbrev pub writes_events : List Event
 writes_events = malloc_events ++ steps 0 8 ++ free_events ++ steps 0 4
@@ -241,7 +250,7 @@ plain_output state = option_map (λ now. now.output) state
 -- with what stands there then
 abbrev pub uses_after_free : List Instr
 uses_after_free =
-    mallocs 24 ++ (addi 10 0 24 ∷ call 3) ++ (addi 9 10 0 ∷ addi 5 0 9 ∷ sd 5 8 8 ∷ []) ++ frees ++ (ld 10 8 8 ∷ call 1)
+    code_of_malloc 24 ++ (addi 10 0 24 ∷ call 3) ++ (addi 9 10 0 ∷ addi 5 0 9 ∷ sd 5 8 8 ∷ []) ++ code_of_free ++ (ld 10 8 8 ∷ call 1)
 
 -- its events but for the last one, the exit
 abbrev pub events_before_exit : List Event

@@ -1,11 +1,9 @@
--- What an instruction that is no call means in a world: the world after it, or the first error that it
--- meets. RISC-V Unprivileged manual, "RV64I Base Integer Instruction Set" and "A Extension for Atomic
--- Instructions"; what it does with pointers is this project's own. Errors are looked for in this order:
--- what traps whatever memory holds; an operand in a register; where the access goes; what stands there;
--- an operand from memory; a pointer into a shared region.
+-- What an instruction that is no call does in a world, or the first error that it meets. RISC-V
+-- Unprivileged manual, "RV64I Base Integer Instruction Set" and "A Extension for Atomic Instructions"; what
+-- it does with pointers is this project's own. Errors are looked for in this order: what traps whatever
+-- memory holds; an operand in a register; where the access goes; what stands there; an operand from memory;
+-- a pointer into a shared region.
 use Rattle.std.specs.Prelude.{ℕ, ◌%◌, ◌==◌, Bool, true, false, ◌&&◌, if◌then◌else◌, List, Option, Some, None, ok_or, Result, Ok, Err}
-use Rattle.osc_word.specs.declared.steps.Choice.{Choice}
-use Rattle.osc_word.specs.declared.steps.Choice.TheVariants as choice
 use Rattle.osc_sv39.specs.declared.entries.Access.TheVariants as access
 use Rattle.osc_rv.specs.declared.instr.LoadKind.{LoadKind}
 use Rattle.osc_rv.specs.declared.instr.AmoOp.{AmoOp}
@@ -16,20 +14,15 @@ use Rattle.osc_isa.specs.Atomic.{width_of, widened, sc_success, sc_failure}
 use Rattle.osc_world.specs.declared.Value.{Value}
 use Rattle.osc_world.specs.declared.Value.TheVariants.{Num, Ptr}
 use Rattle.osc_world.specs.declared.ObjectWhy.{ObjectWhy}
-use Rattle.osc_world.specs.declared.ObjectWhy.TheVariants.{Trap, PointerUse, PointerShared}
+use Rattle.osc_world.specs.declared.ObjectWhy.TheVariants.{Trap, PointerUse}
 use Rattle.osc_world.specs.declared.Place.{Place}
 use Rattle.osc_world.specs.declared.Reservation.{Reservation}
-use Rattle.osc_world.specs.Values.{is_pointer}
-use Rattle.osc_world.specs.States.{value_in, goes_on, sets, sets_at, passes, with_value}
-use Rattle.osc_world.specs.World.{World, WorldTurn, Object}
+use Rattle.osc_world.specs.States.{value_in}
+use Rattle.osc_world.specs.Deeds.{Steps, sets}
+use Rattle.osc_world.specs.Offers.{Meaning, Goes, Errs, Unfit, Conditional, then_try, provided}
+use Rattle.osc_world.specs.World.{WorldTurn, WorldPut, WorldStep, WorldDeed, WorldOffer, Object}
 use Rattle.osc_world.specs.Operations.{is_amo_operand, amo_value}
-use Rattle.osc_world.specs.Accesses.{then_try, provided, reached, is_aligned, is_same_place, is_shared, value_at, stores_at, is_storable}
-
--- what an event means: a world, or an error, or nothing, since it does not fit
-pub data Meaning : Type 0 where
-  Goes : World → Meaning
-  Errs : ObjectWhy → Meaning
-  Unfit : Meaning
+use Rattle.osc_world.specs.Accesses.{aimed, is_same_place, value_at, puts, is_storable}
 
 abbrev pub register_of : WorldTurn → ℕ → Value
 register_of turn number = value_in (Num 0) turn.hart.regs number
@@ -40,26 +33,31 @@ objects_of turn = turn.process.memory.objects
 -- ---- registers and jumps
 
 -- a register gets a value, if there is one
-abbrev pub sets_if : WorldTurn → ℕ → Option Value → Result World ObjectWhy
+abbrev pub sets_if : WorldTurn → ℕ → Option Value → Result WorldStep ObjectWhy
 sets_if turn rd None = Err PointerUse
-sets_if turn rd (Some value) = Ok (sets turn turn.state rd value)
+sets_if turn rd (Some value) = Ok (sets turn rd value)
+
+-- no register is set
+abbrev pub passes : WorldTurn → WorldStep
+passes turn = sets turn 0 (Num 0)
+
+-- a step that goes on at a target, which has to be divisible by 4
+abbrev pub goes_to : ℕ → WorldStep → Result WorldStep ObjectWhy
+goes_to target step = provided (target % 4 == 0) Trap (Ok (record step { pc = target }))
 
 -- a jump, which leaves the address to come back to in a register
-abbrev pub jumps : WorldTurn → ℕ → ℕ → Result World ObjectWhy
-jumps turn rd target =
-    provided (target % 4 == 0) Trap (Ok (sets_at turn turn.state rd (Num (next turn.hart.pc)) target))
+abbrev pub jumps : WorldTurn → ℕ → ℕ → Result WorldStep ObjectWhy
+jumps turn rd target = goes_to target (sets turn rd (Num (next turn.hart.pc)))
 
 -- a jump to a value; there is no code in objects
-abbrev pub jumps_by : WorldTurn → ℕ → Value → Result World ObjectWhy
+abbrev pub jumps_by : WorldTurn → ℕ → Value → Result WorldStep ObjectWhy
 jumps_by turn rd (Num address) = jumps turn rd (without_bit_0 address)
 jumps_by turn rd (Ptr object offset) = Err PointerUse
 
 -- a branch; one that is not taken may have any target
-abbrev pub branches : WorldTurn → ℕ → Option Bool → Result World ObjectWhy
+abbrev pub branches : WorldTurn → ℕ → Option Bool → Result WorldStep ObjectWhy
 branches turn target None = Err PointerUse
-branches turn target (Some taken) =
-    if taken then provided (target % 4 == 0) Trap (Ok (passes turn turn.state target))
-    else Ok (passes turn turn.state (next turn.hart.pc))
+branches turn target (Some taken) = if taken then goes_to target (passes turn) else Ok (passes turn)
 
 -- ---- loads and stores
 
@@ -69,21 +67,21 @@ loaded_value kind (Num number) = Num (loaded kind number)
 loaded_value kind (Ptr object offset) = Ptr object offset
 
 -- a load
-abbrev pub loads : WorldTurn → LoadKind → ℕ → Value → Result World ObjectWhy
+abbrev pub loads : WorldTurn → LoadKind → ℕ → Value → Result WorldStep ObjectWhy
 loads turn kind rd address =
-    provided (is_aligned (load_width kind) address) Trap
-    (then_try (reached turn.process access.Load (load_width kind) address) (λ at.
+    then_try (aimed turn access.Load (load_width kind) address true) (λ at.
     then_try (value_at turn at (load_width kind)) (λ value.
-    Ok (sets turn turn.state rd (loaded_value kind value)))))
+    Ok (sets turn rd (loaded_value kind value))))
+
+-- a step after the store of a value
+abbrev pub after_put : Place → ℕ → Value → WorldStep → Result WorldStep ObjectWhy
+after_put at width value step = then_try (puts at width value) (λ put. Ok (record step { put = Some put }))
 
 -- a store
-abbrev pub stores : WorldTurn → ℕ → Value → Value → Result World ObjectWhy
+abbrev pub stores : WorldTurn → ℕ → Value → Value → Result WorldStep ObjectWhy
 stores turn width address value =
-    provided (is_aligned width address) Trap
-    (provided (is_storable width value) PointerUse
-    (then_try (reached turn.process access.Store width address) (λ at.
-    then_try (stores_at turn at width value) (λ world.
-    Ok (passes turn world (next turn.hart.pc))))))
+    then_try (aimed turn access.Store width address (is_storable width value)) (λ at.
+    after_put at width value (passes turn))
 
 -- ---- atomics
 
@@ -93,28 +91,19 @@ widened_value width (Num number) = Num (widened width number)
 widened_value width (Ptr object offset) = Ptr object offset
 
 -- an atomic memory operation: a load, then a store of what it makes of both
-abbrev pub amos : WorldTurn → AmoOp → Width → ℕ → Value → Value → Result World ObjectWhy
+abbrev pub amos : WorldTurn → AmoOp → Width → ℕ → Value → Value → Result WorldStep ObjectWhy
 amos turn op width rd address operand =
-    provided (is_aligned (width_of width) address) Trap
-    (provided (is_amo_operand op width operand) PointerUse
-    (then_try (reached turn.process access.Store (width_of width) address) (λ at.
+    then_try (aimed turn access.Store (width_of width) address (is_amo_operand op width operand)) (λ at.
     then_try (value_at turn at (width_of width)) (λ old.
     then_try (ok_or (amo_value op width old operand) PointerUse) (λ value.
-    then_try (stores_at turn at (width_of width) value) (λ world.
-    Ok (sets turn world rd (widened_value width old))))))))
-
--- the hart goes on with a reservation, or with none
-abbrev pub sets_reserved : WorldTurn → World → ℕ → Value → Option Reservation → World
-sets_reserved turn world rd value reservation =
-    goes_on turn world (with_value turn.hart.regs rd value) (next turn.hart.pc) reservation
+    after_put at (width_of width) value (sets turn rd (widened_value width old)))))
 
 -- a load-reserved
-abbrev pub reserves : WorldTurn → Width → ℕ → Value → Result World ObjectWhy
+abbrev pub reserves : WorldTurn → Width → ℕ → Value → Result WorldStep ObjectWhy
 reserves turn width rd address =
-    provided (is_aligned (width_of width) address) Trap
-    (then_try (reached turn.process access.Load (width_of width) address) (λ at.
+    then_try (aimed turn access.Load (width_of width) address true) (λ at.
     then_try (value_at turn at (width_of width)) (λ value.
-    Ok (sets_reserved turn turn.state rd (widened_value width value) (Some (record { place = at; width = width }))))))
+    Ok (record (sets turn rd (widened_value width value)) { reservation = Some (record { place = at; width = width }) })))
 
 abbrev pub is_width : Width → Width → Bool
 is_width W W = true
@@ -122,44 +111,26 @@ is_width D D = true
 is_width _ _ = false
 
 -- whether the last load-reserved of the hart was here, with this width, and nothing came between
-abbrev pub is_reserved : Option Reservation → Place → Width → Bool
-is_reserved None at width = false
-is_reserved (Some reservation) at width =
+abbrev pub holds_reservation : Option Reservation → Place → Width → Bool
+holds_reservation None at width = false
+holds_reservation (Some reservation) at width =
     is_same_place reservation.place at && is_width reservation.width width
 
-abbrev pub meaning_of : Result World ObjectWhy → Meaning
-meaning_of (Ok world) = Goes world
-meaning_of (Err why) = Errs why
+-- a store-conditional leaves no reservation
+abbrev pub conditional_step : WorldTurn → ℕ → ℕ → WorldStep
+conditional_step turn rd answer = record (sets turn rd (Num answer)) { reservation = None }
 
--- a store-conditional that stores, and one that fails; neither leaves a reservation
-abbrev pub succeeds : WorldTurn → Width → ℕ → Place → Value → Result World ObjectWhy
-succeeds turn width rd at value =
-    then_try (stores_at turn at (width_of width) value) (λ world. Ok (sets_reserved turn world rd (Num sc_success) None))
+-- a success stores, and fits only where the hart's reservation is still there; a pointer that would go into
+-- a shared region is an error before that
+abbrev pub succeeds : WorldTurn → ℕ → Bool → Result WorldPut ObjectWhy → Meaning WorldDeed ObjectWhy
+succeeds turn rd reserved (Err why) = Errs why
+succeeds turn rd reserved (Ok put) =
+    if reserved then Goes (Steps (record (conditional_step turn rd sc_success) { put = Some put })) else Unfit
 
-abbrev pub fails : WorldTurn → ℕ → World
-fails turn rd = sets_reserved turn turn.state rd (Num sc_failure) None
-
--- a failure always fits; success fits only where the hart's reservation is still there. Every choice fits
--- an error, and a pointer that would go into a shared region is one
-abbrev pub chosen : WorldTurn → Choice → Width → ℕ → Value → Place → Meaning
-chosen turn choice.Success width rd value at =
-    if is_pointer value && is_shared at.area then Errs PointerShared
-    else if is_reserved turn.hart.reservation at width then meaning_of (succeeds turn width rd at value)
-    else Unfit
-chosen turn choice.Fail width rd value at = Goes (fails turn rd)
-chosen turn _ width rd value at = Unfit
-
-abbrev pub chosen_at : WorldTurn → Choice → Width → ℕ → Value → Result Place ObjectWhy → Meaning
-chosen_at turn c width rd value (Err why) = Errs why
-chosen_at turn c width rd value (Ok at) = chosen turn c width rd value at
-
--- where a store-conditional would store, if nothing is wrong with it
-abbrev pub conditional_place : WorldTurn → Width → Value → Value → Result Place ObjectWhy
-conditional_place turn width address value =
-    provided (is_aligned (width_of width) address) Trap
-    (provided (is_storable (width_of width) value) PointerUse
-    (reached turn.process access.Store (width_of width) address))
-
--- a store-conditional
-abbrev pub conditional : WorldTurn → Choice → Width → ℕ → Value → Value → Meaning
-conditional turn c width rd address value = chosen_at turn c width rd value (conditional_place turn width address value)
+-- a store-conditional; a failure always fits
+abbrev pub conditional : WorldTurn → Width → ℕ → Value → Value → Result WorldOffer ObjectWhy
+conditional turn width rd address value =
+    then_try (aimed turn access.Store (width_of width) address (is_storable (width_of width) value)) (λ at.
+    Ok (Conditional
+    (succeeds turn rd (holds_reservation turn.hart.reservation at width) (puts at (width_of width) value))
+    (Steps (conditional_step turn rd sc_failure))))

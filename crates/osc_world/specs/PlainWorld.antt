@@ -1,18 +1,15 @@
--- What an event means with numbers alone, over one flat map from address to byte for each process, and a
--- heap without shadows. This project's own. There are no pages and no permissions in it, and no object. An
--- instruction that traps, a call without a meaning and an event that does not fit change nothing: the
--- object run has met an error by then. None: it is stuck, since there is no slot, or no address for a
--- shared page.
-use Rattle.std.specs.Prelude.{ℕ, zero, suc, ◌+◌, ◌-◌, ◌*◌, ◌/◌, ◌%◌, ◌==◌, ◌&&◌, min, nat_lt, nat_le, if◌then◌else◌, List, [], ◌∷◌, ◌++◌, length, replicate, slice_get, slice_set, slice_index, Option, Some, None, unwrap_or}
+-- What an instruction does with numbers alone, over one flat map from address to byte for each process, and
+-- a heap without shadows. This project's own. There are no pages and no permissions in it, and no object.
+use Rattle.std.specs.Prelude.{ℕ, zero, suc, ◌+◌, ◌-◌, ◌%◌, ◌==◌, ◌&&◌, min, nat_lt, nat_le, if◌then◌else◌, List, [], ◌∷◌, ◌++◌, length, replicate, slice_get, slice_index, Option, Some, None, is_some, unwrap_or}
 use Rattle.byteorder.specs.Endian.{little_number, little_bytes}
-use Rattle.osc_word.specs.Registers.{register}
-use Rattle.osc_word.specs.declared.steps.Choice.{Choice}
-use Rattle.osc_word.specs.declared.steps.Choice.TheVariants as choice
-use Rattle.osc_class.specs.declared.Room.{Room}
+use Rattle.osc_word.specs.AddressMap.{first_shared_page, first_shadow_page}
+use Rattle.osc_word.specs.Environment.{call_of}
+use Rattle.osc_word.specs.declared.calls.Call.{Call}
+use Rattle.osc_word.specs.declared.calls.Call.TheVariants as calls
 use Rattle.osc_class.specs.Rooms.{room_of}
 use Rattle.osc_slot.specs.declared.Block.{Block}
 use Rattle.osc_slot.specs.Slots.{least_start, is_room}
-use Rattle.osc_slot.specs.Heap.{Heap, with_block, without_block, block_of_user}
+use Rattle.osc_slot.specs.Heap.{with_block, without_block, block_of_user}
 use Rattle.osc_rv.specs.declared.instr.Instr.{Instr}
 use Rattle.osc_rv.specs.declared.instr.Instr.TheVariants as instr
 use Rattle.osc_rv.specs.declared.instr.AmoOp.{AmoOp}
@@ -20,43 +17,60 @@ use Rattle.osc_rv.specs.declared.instr.Width.{Width}
 use Rattle.osc_isa.specs.declared.IntDone.{IntDone}
 use Rattle.osc_isa.specs.declared.IntDone.TheVariants as done
 use Rattle.osc_isa.specs.Numbers.{wrapped}
-use Rattle.osc_isa.specs.Integer.{next, done_of, loaded, load_width}
+use Rattle.osc_isa.specs.Integer.{done_of, loaded, load_width}
 use Rattle.osc_isa.specs.Atomic.{width_of, widened, amo_of, sc_success, sc_failure}
-use Rattle.osc_isa.specs.Traps.{Trap, trap_of}
-use Rattle.osc_world.specs.declared.Service.{Service}
-use Rattle.osc_world.specs.declared.Service.TheVariants as service
-use Rattle.osc_world.specs.States.{State, Process, Turn, sets, sets_at, passes, answered, with_memory, shared_start, shared_end}
+use Rattle.osc_isa.specs.Traps.{trap_of}
+use Rattle.osc_world.specs.States.{State, HartTurn, changed_at, shared_page_at}
+use Rattle.osc_world.specs.Deeds.{Put, Step, Deed, Kind, Steps, Heaps, Writes, Exits, Leaves, sets, answers, with_memory}
+use Rattle.osc_world.specs.Offers.{Meaning, Goes, Errs, Offer, Only, Grants, Conditional, Never, joins, waits, forks, spawns, shares, write_count}
 use Rattle.osc_world.specs.Accesses.{overlaid}
-use Rattle.osc_world.specs.Threads.{exited, done_with, joined, waited, spawned, forked, shared_with, write_count, written}
-use Rattle.osc_world.specs.Calls.{service_of}
 
--- the bytes of a process but for its shared pages, its heap, which keeps no frames here, and the size that
--- was asked for at each user address
+-- the bytes of a process but for its shared pages, the frames of the machine, the held blocks of the heap by
+-- their starts, the size that was asked for at each user address, and the user addresses given so far, one
+-- for each malloc or realloc that was given
 pub record Flat : Type 0 where
   pub bytes : ℕ → ℕ
-  pub heap : Heap
+  pub frames : ℕ
+  pub held : List Block
   pub sizes : ℕ → ℕ
+  pub given : List ℕ
+
+-- a call of the heap that is done
+pub data BlockDeed : Type 0 where
+  Places : ℕ → ℕ → BlockDeed  -- a block for a size at this start
+  Releases : Block → BlockDeed
+  Stays : ℕ → ℕ → BlockDeed  -- a user address, which keeps its block for this size
+  Moves : Block → ℕ → ℕ → ℕ → BlockDeed  -- a block and its user address, for a size and to this start
+
+-- why a run can't go on: the heap has no slot, or there is no address for a shared page
+pub data Want : Type 0 where
+  NoSlot : Want
+  NoAddress : Want
 
 abbrev pub Plain : Type 0
 Plain = State ℕ ℕ Flat
 
 abbrev pub PlainTurn : Type 0
-PlainTurn = Turn ℕ ℕ Flat
+PlainTurn = HartTurn ℕ ℕ Flat
+
+abbrev pub PlainStep : Type 0
+PlainStep = Step ℕ ℕ ℕ
+
+abbrev pub PlainDeed : Type 0
+PlainDeed = Deed ℕ ℕ ℕ BlockDeed
+
+abbrev pub PlainOffer : Type 0
+PlainOffer = Offer PlainDeed Want
 
 -- ---- memory
 
--- the number of the shared page that a process has at an address
-abbrev pub shared_at : List ℕ → ℕ → Option ℕ
-shared_at shared address =
-    if nat_le shared_start address then slice_get shared ((address - shared_start) / 4096) else None
-
-abbrev pub byte_or : List (List ℕ) → (ℕ → ℕ) → ℕ → Option ℕ → ℕ
-byte_or pages bytes address None = bytes address
-byte_or pages bytes address (Some page) = slice_index (unwrap_or (slice_get pages page) []) (address % 4096)
+abbrev pub shared_or_own_byte : List (List ℕ) → (ℕ → ℕ) → ℕ → Option ℕ → ℕ
+shared_or_own_byte pages bytes address None = bytes address
+shared_or_own_byte pages bytes address (Some page) = slice_index (unwrap_or (slice_get pages page) []) (address % 4096)
 
 abbrev pub plain_byte : PlainTurn → ℕ → ℕ
 plain_byte turn address =
-    byte_or turn.state.shared turn.process.memory.bytes address (shared_at turn.process.shared address)
+    shared_or_own_byte turn.state.shared turn.process.memory.bytes address (shared_page_at turn.process.shared address)
 
 -- so many bytes from an address on
 unfoldable pub plain_row : PlainTurn → ℕ → ℕ → List ℕ
@@ -68,55 +82,44 @@ abbrev pub plain_number : PlainTurn → ℕ → ℕ → ℕ
 plain_number turn width address = little_number width (plain_row turn width address)
 
 -- a map with these bytes from an address on
-abbrev pub laid : (ℕ → ℕ) → ℕ → List ℕ → ℕ → ℕ
-laid bytes start others address =
+abbrev pub with_bytes : (ℕ → ℕ) → ℕ → List ℕ → ℕ → ℕ
+with_bytes bytes start others address =
     if nat_le start address && nat_lt address (start + length others) then slice_index others (address - start)
     else bytes address
 
-abbrev pub flat_laid : Flat → ℕ → List ℕ → Flat
-flat_laid flat start others = record flat { bytes = laid flat.bytes start others }
-
-abbrev pub flat_stored : Flat → ℕ → List ℕ → Option ℕ → Flat
-flat_stored flat start others None = flat_laid flat start others
-flat_stored flat start others (Some page) = flat
-
-abbrev pub shared_stored : List (List ℕ) → ℕ → List ℕ → Option ℕ → List (List ℕ)
-shared_stored pages start others None = pages
-shared_stored pages start others (Some page) =
-    slice_set pages page (overlaid (unwrap_or (slice_get pages page) []) (start % 4096) others)
+abbrev pub put_by : PlainTurn → ℕ → List ℕ → Option ℕ → Plain
+put_by turn start others None =
+    with_memory turn (record (turn.process.memory) { bytes = with_bytes turn.process.memory.bytes start others })
+put_by turn start others (Some page) =
+    record (turn.state) { shared = changed_at (λ bytes. overlaid bytes (start % 4096) others) turn.state.shared page }
 
 -- the state after a store, which is aligned
-abbrev pub plain_stored : PlainTurn → ℕ → List ℕ → Plain
-plain_stored turn start others =
-    record (turn.state) {
-      shared = shared_stored turn.state.shared start others (shared_at turn.process.shared start);
-      processes = slice_set turn.state.processes turn.pid
-          (record (turn.process) {
-            memory = flat_stored turn.process.memory start others (shared_at turn.process.shared start);
-          });
-    }
+unfoldable pub plain_put : PlainTurn → Put ℕ ℕ → Plain
+plain_put turn put = put_by turn put.at put.bytes (shared_page_at turn.process.shared put.at)
+
+-- a step that stores a number
+abbrev pub putting : ℕ → ℕ → ℕ → PlainStep → PlainStep
+putting width address value step =
+    record step { put = Some (record { at = address; bytes = little_bytes width value }) }
 
 -- ---- atomics
 
 -- an atomic memory operation
-abbrev pub plain_amo : PlainTurn → AmoOp → Width → ℕ → ℕ → ℕ → Plain
+abbrev pub plain_amo : PlainTurn → AmoOp → Width → ℕ → ℕ → ℕ → PlainStep
 plain_amo turn op width rd address operand =
     let old = plain_number turn (width_of width) address in
-    sets turn (plain_stored turn address (little_bytes (width_of width) (amo_of op width old operand))) rd (widened width old)
+    putting (width_of width) address (amo_of op width old operand) (sets turn rd (widened width old))
 
 -- a store-conditional stores where the choice says so
-abbrev pub plain_conditional : PlainTurn → Choice → Width → ℕ → ℕ → ℕ → Plain
-plain_conditional turn choice.Success width rd address operand =
-    sets turn (plain_stored turn address (little_bytes (width_of width) operand)) rd sc_success
-plain_conditional turn choice.Fail width rd address operand = sets turn turn.state rd sc_failure
-plain_conditional turn _ width rd address operand = turn.state
-
-abbrev pub plain_atomic : PlainTurn → Choice → Instr → ℕ → ℕ → Plain
-plain_atomic turn c (instr.Amo op width rd rs1 rs2 aq rl) address operand = plain_amo turn op width rd address operand
-plain_atomic turn c (instr.Lr width rd rs1 aq rl) address operand =
-    sets turn turn.state rd (widened width (plain_number turn (width_of width) address))
-plain_atomic turn c (instr.Sc width rd rs1 rs2 aq rl) address operand = plain_conditional turn c width rd address operand
-plain_atomic turn c _ address operand = turn.state
+abbrev pub plain_atomic : PlainTurn → Instr → ℕ → ℕ → PlainOffer
+plain_atomic turn (instr.Amo op width rd rs1 rs2 aq rl) address operand =
+    Only (Steps (plain_amo turn op width rd address operand))
+plain_atomic turn (instr.Lr width rd rs1 aq rl) address operand =
+    Only (Steps (sets turn rd (widened width (plain_number turn (width_of width) address))))
+plain_atomic turn (instr.Sc width rd rs1 rs2 aq rl) address operand =
+    Conditional (Goes (Steps (putting (width_of width) address operand (sets turn rd sc_success))))
+    (Steps (sets turn rd sc_failure))
+plain_atomic turn _ address operand = Never
 
 -- the bytes of an atomic access, and 1 for any other instruction
 abbrev pub atomic_width : Instr → ℕ
@@ -125,53 +128,25 @@ atomic_width (instr.Lr width rd rs1 aq rl) = width_of width
 atomic_width (instr.Sc width rd rs1 rs2 aq rl) = width_of width
 atomic_width _ = 1
 
-abbrev pub if_aligned : PlainTurn → ℕ → ℕ → Plain → Plain
-if_aligned turn width address state = if address % width == 0 then state else turn.state
+-- ---- the heap
 
--- ---- calls of the heap
-
-abbrev pub plain_refuses : PlainTurn → Option Plain
-plain_refuses turn = Some (answered turn turn.state 0)
-
--- a block is held for a size, and is the answer; the bytes are its own
-abbrev pub holding : Flat → List Block → Block → ℕ → List ℕ → Flat
-holding flat held block size bytes =
-    record {
-      bytes = laid flat.bytes (block.start + 16) bytes;
-      heap = record (flat.heap) { held = with_block block held };
-      sizes = (λ user. if user == block.start + 16 then size else flat.sizes user);
-    }
-
-abbrev pub plain_gives : PlainTurn → Flat → Block → ℕ → List ℕ → Plain
-plain_gives turn flat block size bytes =
-    answered turn (with_memory turn (holding flat flat.heap.held block size bytes)) (block.start + 16)
-
-abbrev pub block_of : Room → ℕ → Block
-block_of room start = record { start = start; room = room }
-
-abbrev pub plain_mallocs_at : PlainTurn → ℕ → Option ℕ → Option Plain
-plain_mallocs_at turn size None = None
-plain_mallocs_at turn size (Some start) =
-    Some (plain_gives turn turn.process.memory (block_of (room_of size) start) size (replicate size 0))
-
--- where the next block of this size starts
+-- the least slot for a size, if there is one
 abbrev pub next_start : Flat → ℕ → Option ℕ
-next_start flat size = least_start flat.heap.frames flat.heap.held (room_of size)
+next_start flat size = least_start flat.frames flat.held (room_of size)
 
--- malloc: the least slot, and zeros
-abbrev pub plain_mallocs : PlainTurn → Choice → ℕ → Option Plain
-plain_mallocs turn choice.Given size = plain_mallocs_at turn size (next_start turn.process.memory size)
-plain_mallocs turn choice.Refused size = plain_refuses turn
-plain_mallocs turn _ size = Some turn.state
+-- the held blocks with one more, for a size
+abbrev pub held_with : Flat → ℕ → ℕ → List Block
+held_with flat start size = with_block (record { start = start; room = room_of size }) flat.held
 
-abbrev pub released : Flat → Option Block → Flat
-released flat None = flat
-released flat (Some block) = record flat { heap = record (flat.heap) { held = without_block block flat.heap.held } }
-
--- free: the slot is given back at once
-abbrev pub plain_frees : PlainTurn → ℕ → Plain
-plain_frees turn user =
-    answered turn (with_memory turn (released turn.process.memory (block_of_user turn.process.memory.heap.held user))) 0
+-- a user address is given for a size, with these bytes
+abbrev pub with_given : Flat → List Block → ℕ → ℕ → List ℕ → Flat
+with_given flat held user size bytes =
+    record flat {
+      bytes = with_bytes flat.bytes user bytes;
+      held = held;
+      sizes = (λ other. if other == user then size else flat.sizes other);
+      given = flat.given ++ user ∷ [];
+    }
 
 -- the common bytes of an object with another size, and zeros
 abbrev pub plain_resized : PlainTurn → ℕ → ℕ → List ℕ
@@ -179,93 +154,88 @@ plain_resized turn user size =
     let common = min (turn.process.memory.sizes user) size in
     plain_row turn common user ++ replicate (size - common) 0
 
-abbrev pub plain_moves_to : PlainTurn → Block → ℕ → ℕ → Option ℕ → Option Plain
-plain_moves_to turn block user size None = None
-plain_moves_to turn block user size (Some start) =
-    Some (answered turn
-    (with_memory turn
-    (released (holding turn.process.memory turn.process.memory.heap.held (block_of (room_of size) start) size (plain_resized turn user size)) (Some block)))
-    (start + 16))
+-- a move is malloc, copy and free
+abbrev pub flat_after : PlainTurn → Flat → BlockDeed → Flat
+flat_after turn flat (Places size start) =
+    with_given flat (held_with flat start size) (start + 16) size (replicate size 0)
+flat_after turn flat (Releases block) = record flat { held = without_block block flat.held }
+flat_after turn flat (Stays user size) = with_given flat flat.held user size (plain_resized turn user size)
+flat_after turn flat (Moves block user size start) =
+    with_given flat (without_block block (held_with flat start size)) (start + 16) size (plain_resized turn user size)
 
-abbrev pub plain_stays : PlainTurn → Block → ℕ → ℕ → Option Plain
-plain_stays turn block user size =
-    Some (answered turn
-    (with_memory turn (record (turn.process.memory) {
-      bytes = laid turn.process.memory.bytes user (plain_resized turn user size);
-      sizes = (λ other. if other == user then size else turn.process.memory.sizes other);
-    }))
-    user)
+abbrev pub plain_kind : Kind ℕ ℕ Flat ℕ BlockDeed
+plain_kind =
+    record {
+      number = (λ n. n);
+      nought = 0;
+      put = plain_put;
+      memory = (λ turn deed. flat_after turn turn.process.memory deed);
+    }
 
--- realloc of a held block: it stays where the room is the same, else it is malloc, copy and free
-abbrev pub plain_moves : PlainTurn → Choice → ℕ → ℕ → Option Block → Option Plain
-plain_moves turn choice.Given user size (Some block) =
-    if is_room block.room (room_of size) then plain_stays turn block user size
-    else plain_moves_to turn block user size (next_start turn.process.memory size)
-plain_moves turn choice.Refused user size (Some block) = plain_refuses turn
-plain_moves turn _ user size _ = Some turn.state
+-- the slot for a size, or a refusal, which answers 0; it is stuck where there is no slot
+abbrev pub grants_block : PlainTurn → (ℕ → BlockDeed) → Option ℕ → PlainOffer
+grants_block turn deed None = Grants (Errs NoSlot) (answers turn 0)
+grants_block turn deed (Some start) = Grants (Goes (Heaps (deed start) (start + 16))) (answers turn 0)
 
-abbrev pub plain_reallocs : PlainTurn → Choice → ℕ → ℕ → Option Plain
-plain_reallocs turn c user size =
-    if user == 0 then plain_mallocs turn c size
-    else plain_moves turn c user size (block_of_user turn.process.memory.heap.held user)
+-- malloc
+abbrev pub plain_malloc : PlainTurn → Flat → ℕ → PlainOffer
+plain_malloc turn flat size = grants_block turn (Places size) (next_start flat size)
 
--- ---- the other calls
+-- free: the slot is given back at once
+abbrev pub plain_free : PlainTurn → Option Block → PlainDeed
+plain_free turn None = answers turn 0
+plain_free turn (Some block) = Heaps (Releases block) 0
 
--- the end of the shared pages of a process that shares so many more
-abbrev pub shared_end_after : Process Flat → ℕ → ℕ
-shared_end_after process count = shared_start + 4096 * (length process.shared + count)
+-- realloc of a held block
+abbrev pub plain_replace : PlainTurn → Flat → ℕ → ℕ → Option Block → PlainOffer
+plain_replace turn flat user size None = Never
+plain_replace turn flat user size (Some block) =
+    if is_room block.room (room_of size) then Grants (Goes (Heaps (Stays user size) user)) (answers turn 0)
+    else grants_block turn (Moves block user size) (next_start flat size)
 
-abbrev pub if_fits_plain : PlainTurn → Option Plain → Plain
-if_fits_plain turn None = turn.state
-if_fits_plain turn (Some now) = now
+abbrev pub plain_realloc : PlainTurn → Flat → ℕ → ℕ → PlainOffer
+plain_realloc turn flat user size =
+    if user == 0 then plain_malloc turn flat size
+    else plain_replace turn flat user size (block_of_user flat.held user)
 
--- share: it is stuck where a byte would lie past the shared range
-abbrev pub plain_shares : PlainTurn → Choice → ℕ → Option Plain
-plain_shares turn choice.Given count =
-    if nat_lt shared_end (shared_end_after turn.process count) then None
-    else Some (if_fits_plain turn (shared_with (λ n. n) 0 turn choice.Given count))
-plain_shares turn c count = Some (if_fits_plain turn (shared_with (λ n. n) 0 turn c count))
+-- ---- calls and instructions
 
-abbrev pub plain_serves : PlainTurn → Choice → Service → ℕ → ℕ → ℕ → Option Plain
-plain_serves turn c service.Exit status _ _ = Some (exited turn status)
-plain_serves turn c service.Write buffer asked _ =
-    Some (written (λ n. n) turn (plain_row turn (write_count turn.state asked) buffer))
-plain_serves turn c service.Malloc size _ _ = plain_mallocs turn c size
-plain_serves turn c service.Free user _ _ = Some (plain_frees turn user)
-plain_serves turn c service.Realloc user size _ = plain_reallocs turn c user size
-plain_serves turn c service.Fork _ _ _ = Some (if_fits_plain turn (forked (λ n. n) turn c))
-plain_serves turn c service.Spawn pc sp arg = Some (if_fits_plain turn (spawned (λ n. n) turn c pc sp arg))
-plain_serves turn c service.Join thread _ _ = Some (if_fits_plain turn (joined (λ n. n) turn thread))
-plain_serves turn c service.Done value _ _ = Some (done_with turn value)
-plain_serves turn c service.Share count _ _ = plain_shares turn c count
-plain_serves turn c service.Wait child _ _ = Some (if_fits_plain turn (waited (λ n. n) turn child))
+-- share: it is stuck where a byte would lie past the shared range, which shadows follow
+abbrev pub plain_shares : PlainTurn → ℕ → Meaning PlainDeed Want
+plain_shares turn count =
+    if nat_lt first_shadow_page (first_shared_page + (length turn.process.shared + count)) then Errs NoAddress
+    else shares count
 
-abbrev pub plain_calls : PlainTurn → Choice → Option Service → Option Plain
-plain_calls turn c None = Some turn.state
-plain_calls turn c (Some call) =
-    plain_serves turn c call (register turn.hart.regs 10) (register turn.hart.regs 11) (register turn.hart.regs 12)
+unfoldable pub plain_serves : PlainTurn → Call → PlainOffer
+plain_serves turn (calls.Exit status) = Only (Exits status)
+plain_serves turn (calls.Write buffer asked) = Only (Writes (plain_row turn (write_count turn.state asked) buffer))
+plain_serves turn (calls.Malloc size) = plain_malloc turn turn.process.memory size
+plain_serves turn (calls.Free user) = Only (plain_free turn (block_of_user turn.process.memory.held user))
+plain_serves turn (calls.Realloc user size) = plain_realloc turn turn.process.memory user size
+plain_serves turn calls.Fork = forks (λ n. n) turn
+plain_serves turn (calls.Spawn pc sp arg) = spawns (λ n. n) turn pc sp arg
+plain_serves turn (calls.Join thread) = joins (λ n. n) turn thread
+plain_serves turn (calls.Done value) = Only (Leaves value)
+plain_serves turn (calls.Share count) = Grants (plain_shares turn count) (answers turn 0)
+plain_serves turn (calls.Wait child) = waits (λ n. n) turn child
+plain_serves turn (calls.Unknown number) = Never
+plain_serves turn (calls.End fault) = Never
 
--- ---- one event
+-- what an instruction that does not trap does
+abbrev pub plain_offer : PlainTurn → Instr → IntDone → PlainOffer
+plain_offer turn i (done.Set rd value pc) = Only (Steps (record (sets turn rd value) { pc = pc }))
+plain_offer turn i (done.Go pc) = Only (Steps (record (sets turn 0 0) { pc = pc }))
+plain_offer turn i (done.Load rd kind address) =
+    Only (Steps (sets turn rd (loaded kind (plain_number turn (load_width kind) address))))
+plain_offer turn i (done.Store width address value) = Only (Steps (putting width address value (sets turn 0 0)))
+plain_offer turn i (done.Atomic address operand) =
+    if address % atomic_width i == 0 then plain_atomic turn i address operand else Never
+plain_offer turn i done.Call = plain_serves turn (call_of turn.hart.regs)
+plain_offer turn i done.Break = Never
+plain_offer turn i (done.BadTarget target) = Never
 
--- what an instruction that does not trap comes to
-abbrev pub plain_after : PlainTurn → Choice → Instr → IntDone → Option Plain
-plain_after turn c i (done.Set rd value pc) = Some (sets_at turn turn.state rd value pc)
-plain_after turn c i (done.Go pc) = Some (passes turn turn.state pc)
-plain_after turn c i (done.Load rd kind address) =
-    Some (sets turn turn.state rd (loaded kind (plain_number turn (load_width kind) address)))
-plain_after turn c i (done.Store width address value) =
-    Some (passes turn (plain_stored turn address (little_bytes width value)) (next turn.hart.pc))
-plain_after turn c i (done.Atomic address operand) =
-    Some (if_aligned turn (atomic_width i) address (plain_atomic turn c i address operand))
-plain_after turn c i done.Call = plain_calls turn c (service_of (register turn.hart.regs 17))
-plain_after turn c i done.Break = Some turn.state
-plain_after turn c i (done.BadTarget target) = Some turn.state
-
-abbrev pub plain_unless : PlainTurn → Choice → Instr → IntDone → Option Trap → Option Plain
-plain_unless turn c i what (Some trap) = Some turn.state
-plain_unless turn c i what None = plain_after turn c i what
-
-abbrev pub plain_does : PlainTurn → Choice → Option Instr → Option Plain
-plain_does turn c None = Some turn.state
-plain_does turn c (Some i) =
-    plain_unless turn c i (done_of i turn.hart.regs turn.hart.pc) (trap_of (done_of i turn.hart.regs turn.hart.pc) turn.hart.pc)
+-- what an instruction does, up to what it leaves to choose; nothing where it traps
+unfoldable pub plain_offered : PlainTurn → Instr → PlainOffer
+plain_offered turn i =
+    let what = done_of i turn.hart.regs turn.hart.pc in
+    if is_some (trap_of what turn.hart.pc) then Never else plain_offer turn i what

@@ -1,17 +1,17 @@
 -- The object run: the fold over events from the boot of an image. This project's own.
-use Rattle.std.specs.Prelude.{ℕ, ◌+◌, ◌-◌, ◌*◌, Bool, true, ◌&&◌, List, [], ◌∷◌, ◌++◌, map, replicate, Option, Some, None}
+use Rattle.std.specs.Prelude.{ℕ, ◌+◌, ◌-◌, ◌*◌, Bool, true, ◌&&◌, List, [], ◌∷◌, ◌++◌, map, replicate, Option, Some, None, unwrap_or}
 use Rattle.std.specs.List.{range_with_len}
+use Rattle.osc_word.specs.AddressMap.{first_stack_page, stack_size}
 use Rattle.osc_word.specs.declared.steps.Event.{Event}
 use Rattle.osc_word.specs.declared.settings.Config.{Config}
-use Rattle.osc_sv39.specs.declared.flags.PteBits.{PteBits}
 use Rattle.osc_image.specs.Image.{Image, bits_at, laid_byte, pages}
 use Rattle.osc_world.specs.declared.Value.TheVariants.{Num}
 use Rattle.osc_world.specs.declared.Byte.TheVariants.{Number}
 use Rattle.osc_world.specs.declared.ObjectWhy.{ObjectWhy}
 use Rattle.osc_world.specs.declared.ObjectWhy.TheVariants.{Trap}
 use Rattle.osc_world.specs.States.{first_state}
-use Rattle.osc_world.specs.World.{World, Memory, Page}
-use Rattle.osc_world.specs.Instructions.{Meaning, Goes, Errs, Unfit}
+use Rattle.osc_world.specs.Offers.{Meaning, Goes, Errs, Unfit}
+use Rattle.osc_world.specs.World.{World, Memory, Page, read_write}
 use Rattle.osc_world.specs.Events.{meaning, fits}
 
 -- ---- the run
@@ -24,7 +24,7 @@ pub record ObjectRun : Type 0 where
   pub error : Option ObjectWhy
 
 -- an event that does not fit is a trap
-abbrev pub judged_as : World → ℕ → Meaning → ObjectRun
+abbrev pub judged_as : World → ℕ → Meaning World ObjectWhy → ObjectRun
 judged_as world events (Goes now) = record { world = now; events = events + 1; error = None }
 judged_as world events (Errs why) = record { world = world; events = events; error = Some why }
 judged_as world events Unfit = record { world = world; events = events; error = Some Trap }
@@ -52,35 +52,26 @@ all_fit run (event ∷ events) = fits_after run.error run.world event && all_fit
 
 -- ---- the boot
 
-abbrev pub page_bits : Option PteBits → PteBits
-page_bits None = record { 0 = 0 }
-page_bits (Some bits) = bits
-
 -- a page of the image
-abbrev pub image_page : Image → ℕ → Page
-image_page image number =
+abbrev pub page_of_image : Image → ℕ → Page
+page_of_image image number =
     record {
       number = number;
-      bits = page_bits (bits_at image number);
+      bits = unwrap_or (bits_at image number) (record { 0 = 0 });
       bytes = map (λ address. Number (laid_byte image.segments address)) (range_with_len (4096 * number) 4096);
     }
-
--- the permissions R and W
-abbrev pub read_write : PteBits
-read_write = record { 0 = 6 }
 
 -- a page of zeros that is read and written
 abbrev pub zero_page : ℕ → Page
 zero_page number = record { number = number; bits = read_write; bytes = replicate 4096 (Number 0) }
 
--- the main stack has 16 pages from 0x1_000F_0000 on
-abbrev pub stack_numbers : List ℕ
-stack_numbers = range_with_len 0x1000F0 16
-
--- the memory of an image that has these pages, ascending
+-- the memory of an image that has these pages, ascending, with the main stack
 abbrev pub memory_with : Image → List ℕ → Memory
 memory_with image numbers =
-    record { pages = map (image_page image) numbers ++ map zero_page stack_numbers; objects = [] }
+    record {
+      pages = map (page_of_image image) numbers ++ map zero_page (range_with_len first_stack_page stack_size);
+      objects = [];
+    }
 
 abbrev pub begins : World → ObjectRun
 begins world = record { world = world; events = 0; error = None }

@@ -1,8 +1,8 @@
 -- What the object run and the plain run have in common: harts, threads, processes and shared pages. V is
 -- what a register holds, B what a byte holds, and M is a process's own memory. This project's own.
-use Rattle.std.specs.Prelude.{ℕ, ◌==◌, if◌then◌else◌, List, [], ◌∷◌, slice_get, slice_set, replicate, Option, Some, None, unwrap_or}
+use Rattle.std.specs.Prelude.{ℕ, zero, suc, ◌-◌, ◌/◌, ◌==◌, nat_le, if◌then◌else◌, List, [], ◌∷◌, slice_get, slice_set, replicate, Option, Some, None, unwrap_or}
 use Rattle.std.specs.Option.{option_map, option_and_then}
-use Rattle.osc_isa.specs.Integer.{next}
+use Rattle.osc_word.specs.AddressMap.{stack_end, first_shared_page}
 use Rattle.osc_world.specs.declared.Reservation.{Reservation}
 
 -- an idle hart has no process and no registers
@@ -33,81 +33,50 @@ pub record State (V B M : Type 0) : Type 0 where
   pub threads : List (Thread V)
 
 -- one event under way: the state, the hart with its number, and its process with its number
-pub record Turn (V B M : Type 0) : Type 0 where
+pub record HartTurn (V B M : Type 0) : Type 0 where
   pub state : State V B M
   pub number : ℕ
   pub hart : Hart V
   pub pid : ℕ
   pub process : Process M
 
-abbrev pub turn_in : {V B M : Type 0} → State V B M → ℕ → Hart V → ℕ → Option (Turn V B M)
+abbrev pub turn_in : {V B M : Type 0} → State V B M → ℕ → Hart V → ℕ → Option (HartTurn V B M)
 turn_in state number hart pid =
     option_map (λ process. record { state = state; number = number; hart = hart; pid = pid; process = process })
     (slice_get state.processes pid)
 
-abbrev pub turn_on : {V B M : Type 0} → State V B M → ℕ → Hart V → Option (Turn V B M)
+abbrev pub turn_on : {V B M : Type 0} → State V B M → ℕ → Hart V → Option (HartTurn V B M)
 turn_on state number hart = option_and_then (turn_in state number hart) hart.process
 
 -- the turn of a hart; None where it runs no thread
-abbrev pub turn_of : {V B M : Type 0} → State V B M → ℕ → Option (Turn V B M)
+abbrev pub turn_of : {V B M : Type 0} → State V B M → ℕ → Option (HartTurn V B M)
 turn_of state number = option_and_then (turn_on state number) (slice_get state.harts number)
 
--- what a register holds; x0 holds zero
+-- a list with the element of an index changed
+unfoldable pub changed_at : {X : Type 0} → (X → X) → List X → ℕ → List X
+changed_at change [] index = []
+changed_at change (x ∷ xs) zero = change x ∷ xs
+changed_at change (x ∷ xs) (suc index) = x ∷ changed_at change xs index
+
+-- what a register holds; x0 holds the value of the number 0
 abbrev pub value_in : {V : Type 0} → V → List V → ℕ → V
-value_in zero regs number = if number == 0 then zero else unwrap_or (slice_get regs number) zero
+value_in nought regs number = if number == 0 then nought else unwrap_or (slice_get regs number) nought
 
 -- the registers once one was written; x0 stays
 abbrev pub with_value : {V : Type 0} → List V → ℕ → V → List V
 with_value regs number value = if number == 0 then regs else slice_set regs number value
 
--- the hart goes on with these registers at this pc, in a state that its instruction left
-abbrev pub goes_on : {V B M : Type 0} → Turn V B M → State V B M → List V → ℕ → Option Reservation → State V B M
-goes_on turn state regs pc reservation =
-    record state {
-      harts = slice_set state.harts turn.number (record (turn.hart) { regs = regs; pc = pc; reservation = reservation });
-    }
-
--- a register is set, and the hart goes on at a pc
-abbrev pub sets_at : {V B M : Type 0} → Turn V B M → State V B M → ℕ → V → ℕ → State V B M
-sets_at turn state rd value pc =
-    goes_on turn state (with_value turn.hart.regs rd value) pc turn.hart.reservation
-
--- a register is set, and the hart goes on with the next instruction
-abbrev pub sets : {V B M : Type 0} → Turn V B M → State V B M → ℕ → V → State V B M
-sets turn state rd value = sets_at turn state rd value (next turn.hart.pc)
-
--- no register is set, and the hart goes on at a pc
-abbrev pub passes : {V B M : Type 0} → Turn V B M → State V B M → ℕ → State V B M
-passes turn state pc = goes_on turn state turn.hart.regs pc turn.hart.reservation
-
--- a call is answered in a0; no reservation outlasts a call
-abbrev pub answered : {V B M : Type 0} → Turn V B M → State V B M → V → State V B M
-answered turn state value =
-    goes_on turn state (with_value turn.hart.regs 10 value) (next turn.hart.pc) None
-
--- the hart's process has this memory of its own
-abbrev pub with_memory : {V B M : Type 0} → Turn V B M → M → State V B M
-with_memory turn memory =
-    record (turn.state) {
-      processes = slice_set turn.state.processes turn.pid (record (turn.process) { memory = memory });
-    }
-
--- where the shared pages of a process begin and end, and where the main stack ends
-abbrev pub shared_start : ℕ
-shared_start = 0x200000000
-
-abbrev pub shared_end : ℕ
-shared_end = 0x1000000000
-
-abbrev pub stack_end : ℕ
-stack_end = 0x100100000
+-- the shared page that a process has at an address
+abbrev pub shared_page_at : List ℕ → ℕ → Option ℕ
+shared_page_at shared address =
+    if nat_le first_shared_page (address / 4096) then slice_get shared (address / 4096 - first_shared_page) else None
 
 abbrev pub idle : {V : Type 0} → Hart V
 idle = record { process = None; thread = None; regs = []; pc = 0; reservation = None }
 
 -- the first thread, of process 0: x2 is the end of the stack, and every other register is 0
-abbrev pub first_hart : {V : Type 0} → (ℕ → V) → ℕ → Hart V
-first_hart number entry =
+abbrev pub boot_hart : {V : Type 0} → (ℕ → V) → ℕ → Hart V
+boot_hart number entry =
     record {
       process = Some 0;
       thread = None;
@@ -123,7 +92,7 @@ first_state number memory entry others =
       output = [];
       shared = [];
       processes = record { memory = memory; shared = []; parent = None; status = None } ∷ [];
-      harts = first_hart number entry ∷ replicate others idle;
+      harts = boot_hart number entry ∷ replicate others idle;
       threads = [];
     }
 

@@ -11,13 +11,13 @@ use Rattle.osc_world.specs.declared.Byte.{Byte}
 use Rattle.osc_world.specs.declared.Byte.TheVariants.{Number, Part}
 
 -- the value so many further on
-abbrev pub moved : Value → ℕ → Value
-moved (Num number) by = Num (wrapped (number + by))
-moved (Ptr object offset) by = Ptr object (wrapped (offset + by))
+abbrev pub advanced : Value → ℕ → Value
+advanced (Num number) by = Num (wrapped (number + by))
+advanced (Ptr object offset) by = Ptr object (wrapped (offset + by))
 
-abbrev pub is_pointer : Value → Bool
-is_pointer (Num number) = false
-is_pointer (Ptr object offset) = true
+abbrev pub is_pointer_value : Value → Bool
+is_pointer_value (Num number) = false
+is_pointer_value (Ptr object offset) = true
 
 -- the eight parts of a pointer
 abbrev pub parts : ℕ → ℕ → List Byte
@@ -25,10 +25,10 @@ parts object offset =
     Part object offset 0 ∷ Part object offset 1 ∷ Part object offset 2 ∷ Part object offset 3
     ∷ Part object offset 4 ∷ Part object offset 5 ∷ Part object offset 6 ∷ Part object offset 7 ∷ []
 
--- the bytes of a value that is stored with a width; None where it is a pointer and the width is not 8
-abbrev pub spread : ℕ → Value → Option (List Byte)
-spread width (Num number) = Some (map Number (little_bytes width number))
-spread width (Ptr object offset) = if width == 8 then Some (parts object offset) else None
+-- the bytes of a value that is stored with a width; a pointer is stored with all its parts
+abbrev pub spread : ℕ → Value → List Byte
+spread width (Num number) = map Number (little_bytes width number)
+spread width (Ptr object offset) = parts object offset
 
 -- the numbers that bytes hold; None where one is a part of a pointer
 unfoldable pub numbers_in : List Byte → Option (List ℕ)

@@ -52,7 +52,7 @@ pub enum ObjectWhy {
 pub enum Area {
     /// An object, by its number.
     Object(u32),
-    /// A page of image or stack, by its place in the list of them.
+    /// A page of image or stack, by its address divided by 4096.
     Page(u32),
     /// A page of a shared region, by its number over the whole world.
     Shared(u32),
@@ -70,20 +70,4 @@ pub struct Place {
 pub struct Reservation {
     pub place: Place,
     pub width: Width,
-}
-
-/// An environment call.
-#[derive(Clone, Copy, Debug, PartialEq, Eq)]
-pub enum Service {
-    Exit,
-    Write,
-    Malloc,
-    Free,
-    Realloc,
-    Fork,
-    Spawn,
-    Join,
-    Done,
-    Share,
-    Wait,
 }

@@ -6,13 +6,14 @@ ghost use Rattle.osc_world.specs.declared.ObjectWhy.{ObjectWhy};
 ghost use Rattle.osc_world.specs.declared.ObjectWhy.TheVariants.{Trap};
 ghost use Rattle.osc_world.specs.World.{World};
 ghost use Rattle.osc_word.specs.declared.steps.Choice.{Choice};
-ghost use Rattle.osc_word.specs.declared.steps.Choice.TheVariants.{Plain, Started};
+ghost use Rattle.osc_word.specs.declared.steps.Choice.TheVariants.{Plain};
 ghost use Rattle.osc_rv.specs.declared.instr.Instr.{Instr};
-ghost use Rattle.osc_world.specs.declared.Value.TheVariants.{Num};
-ghost use Rattle.osc_world.specs.States.{turn_of};
-ghost use Rattle.osc_world.specs.World.{WorldTurn};
-ghost use Rattle.osc_world.specs.Threads.{forked, output_room};
-ghost use Rattle.osc_world.specs.Instructions.{Goes, Errs};
+ghost use Rattle.osc_word.specs.Environment.{output_limit};
+ghost use Rattle.osc_world.specs.States.{turn_of, Process};
+ghost use Rattle.osc_world.specs.World.{WorldTurn, WorldDeed, Memory};
+ghost use Rattle.osc_world.specs.Deeds.{Forks, state_after};
+ghost use Rattle.osc_world.specs.Offers.{Goes, Errs};
+ghost use Rattle.osc_world.specs.Calls.{world_kind};
 ghost use Rattle.osc_world.specs.Events.{does, meaning, IsNoConditional, LeavesNothingOpen, fits};
 ghost use Rattle.osc_world.specs.Run.{ObjectRun, all_fit, judged, object_run};
 ghost use Rattle.osc_world.specs.PlainWorld as plain_world;
@@ -70,15 +71,27 @@ pub fn other_instructions_are_plain()
 
 /// No output is longer than its room of 4 MiB.
 pub fn output_fits_its_room()
-    ensures event { (world : World) (event : Event) (next : World) → length world.output ≤ output_room
-        → meaning world event ≡ Goes next → length next.output ≤ output_room }
-    ensures run { (run : ObjectRun) (events : List Event) → length run.world.output ≤ output_room
-        → length (object_run run events).world.output ≤ output_room }
+    ensures event { (world : World) (event : Event) (next : World) → length world.output ≤ output_limit
+        → meaning world event ≡ Goes next → length next.output ≤ output_limit }
+    ensures run { (run : ObjectRun) (events : List Event) → length run.world.output ≤ output_limit
+        → length (object_run run events).world.output ≤ output_limit }
 {}
 
-/// A forked child has its parent's own memory and shared pages, and the idle hart that was chosen.
+/// A forked child has its parent's own memory and shared pages.
+#[tactic(auto, unfolding(crate::specs::Deeds::state_after))]
 pub fn fork_copies()
-    ensures { (turn : WorldTurn) (hart : ℕ) (next : World) → forked Num turn (Started hart) ≡ Some next
-        → slice_get next.processes (length turn.state.processes)
+    ensures { (turn : WorldTurn) (hart : ℕ)
+        → slice_get (state_after world_kind turn (Forks hart)).processes (length turn.state.processes)
         ≡ Some (record { memory = turn.process.memory; shared = turn.process.shared; parent = Some turn.pid; status = None }) }
+{}
+
+/// No deed takes a hart, a process, a thread, a shared page or an object away: an object keeps its number.
+pub fn worlds_only_grow()
+    ensures harts { (turn : WorldTurn) (deed : WorldDeed) → length (state_after world_kind turn deed).harts ≡ length turn.state.harts }
+    ensures processes { (turn : WorldTurn) (deed : WorldDeed) → length turn.state.processes ≤ length (state_after world_kind turn deed).processes }
+    ensures threads { (turn : WorldTurn) (deed : WorldDeed) → length turn.state.threads ≤ length (state_after world_kind turn deed).threads }
+    ensures shared { (turn : WorldTurn) (deed : WorldDeed) → length turn.state.shared ≤ length (state_after world_kind turn deed).shared }
+    ensures objects { (turn : WorldTurn) (deed : WorldDeed) (pid : ℕ) (was now : Process Memory)
+        → slice_get turn.state.processes turn.pid ≡ Some turn.process → slice_get turn.state.processes pid ≡ Some was
+        → slice_get (state_after world_kind turn deed).processes pid ≡ Some now → length was.memory.objects ≤ length now.memory.objects }
 {}

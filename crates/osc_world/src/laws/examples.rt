@@ -1,5 +1,5 @@
 //! Small programs, whose runs are computed. Each object run starts from the pages of the program's image.
-#![tactic(auto, unfolding(osc_rv::specs::Instr::instr_of, osc_rv::specs::Instr::word_of, osc_image::specs::Image::laid_byte, osc_image::specs::Image::page_permits, crate::specs::Values::numbers_in, crate::specs::Values::are_parts, crate::specs::Accesses::row_at, crate::specs::Events::meaning, crate::specs::Run::object_run, crate::specs::PlainWorld::plain_row, crate::specs::PlainRun::plain_meaning, crate::specs::PlainRun::plain_run,))]
+#![tactic(auto, unfolding(osc_rv::specs::Instr::instr_of, osc_rv::specs::Instr::word_of, osc_image::specs::Image::laid_byte, osc_image::specs::Image::page_permits, crate::specs::Values::numbers_in, crate::specs::Values::are_parts, crate::specs::States::changed_at, crate::specs::Deeds::state_after, crate::specs::Offers::chosen, crate::specs::Accesses::reached_place, crate::specs::Accesses::overlaid, crate::specs::Accesses::put_in_world, crate::specs::Accesses::row_at, crate::specs::Calls::serves, crate::specs::Events::offered, crate::specs::Events::instr_at, crate::specs::Events::meaning, crate::specs::Run::object_run, osc_word::specs::Environment::call_of, crate::specs::PlainWorld::plain_row, crate::specs::PlainWorld::plain_put, crate::specs::PlainWorld::plain_serves, crate::specs::PlainWorld::plain_offered, crate::specs::PlainRun::plain_meaning, crate::specs::PlainRun::plain_run,))]
 
 ghost use Rattle.std.specs.Prelude.{ℕ, ◌≡◌, ◌<◌, ◌≤◌, ◌++◌, [], ◌∷◌, List, length, Some, None};
 ghost use Rattle.osc_word.specs.declared.steps.Choice.TheVariants.{Success, Fail};
@@ -8,9 +8,9 @@ ghost use Rattle.osc_rv.specs.declared.instr.Instr.{Instr};
 ghost use Rattle.osc_image.specs.Image.{pages};
 ghost use Rattle.osc_world.specs.Run.{object_run_of};
 ghost use Rattle.osc_world.specs.PlainRun.{plain_run_of};
-ghost use Rattle.osc_world.specs.declared.ObjectWhy.TheVariants.{Trap, DeadObject, Outside, PointerBytes, BadFree};
+ghost use Rattle.osc_world.specs.declared.ObjectWhy.TheVariants.{Trap, PointerUse, DeadObject, Outside, PointerBytes, BadFree};
 ghost use Rattle.osc_world.specs.States.{status_of};
-ghost use Rattle.osc_world.specs.Examples.{code_of, image_of_program, config_of, run_of, plain_run_over, plain_register, plain_status, image_with, steps, event, malloc_events, free_events, realloc_events, stores_and_frees, stores_and_frees_events, loads_from_nothing, loads_after_free, frees_twice, frees_inside, stores_before, moves, moves_events, loads_after_move, loads_a_part, reserves, reserves_beside, until_reserved, shares_and_forks, before_the_exit, shares_and_forks_events, uses_after_free, events_before_exit, spawns_and_joins, before_thread_is_done, until_thread_is_done, writes, writes_events, asks_in_vain, asks_in_vain_events, register_after, plain_output};
+ghost use Rattle.osc_world.specs.Examples.{code_of, image_of_program, config_of, run_of, plain_run_over, plain_register, plain_status, image_with, steps, event, malloc_events, free_events, realloc_events, stores_and_frees, stores_and_frees_events, loads_from_nothing, loads_after_free, frees_twice, frees_inside, stores_before, moves, moves_events, loads_after_move, loads_a_part, multiplies, multiplies_pointer, reserves_once, reserves_beside, until_reserved, shares_and_forks, before_the_exit, shares_and_forks_events, uses_after_free, events_before_exit, spawns_and_joins, before_thread_is_done, until_thread_is_done, writes_two_bytes, writes_events, asks_in_vain, asks_in_vain_events, register_after, plain_output};
 ghost use Rattle.osc_world.specs.declared.Value.TheVariants.{Num};
 
 /// An image of at most 4096 bytes of code has the one page from which these runs start.
@@ -59,10 +59,19 @@ pub fn parts_err()
     ensures event { (run_of 1 loads_a_part (malloc_events ++ steps 0 3)).events ≡ 6 }
 {}
 
+/// Numbers are multiplied, and a pointer is not: the error of event 5, the sixth.
+pub fn products_are_of_numbers()
+    ensures clean { (run_of 1 multiplies (steps 0 5)).error ≡ None }
+    ensures status { status_of (run_of 1 multiplies (steps 0 5)).world ≡ Some 42 }
+    ensures plain { plain_status (plain_run_over 1 multiplies (steps 0 5)) ≡ Some 42 }
+    ensures error { (run_of 1 multiplies_pointer (malloc_events ++ steps 0 2)).error ≡ Some PointerUse }
+    ensures event { (run_of 1 multiplies_pointer (malloc_events ++ steps 0 2)).events ≡ 5 }
+{}
+
 /// On one hart a store-conditional after a load-reserved may succeed, and a second one may not.
 pub fn second_conditional_traps()
-    ensures first { (run_of 1 reserves (malloc_events ++ steps 0 1 ++ event 0 Success ∷ event 0 Fail ∷ [])).error ≡ None }
-    ensures second { (run_of 1 reserves (malloc_events ++ steps 0 1 ++ event 0 Success ∷ event 0 Success ∷ [])).error ≡ Some Trap }
+    ensures first { (run_of 1 reserves_once (malloc_events ++ steps 0 1 ++ event 0 Success ∷ event 0 Fail ∷ [])).error ≡ None }
+    ensures second { (run_of 1 reserves_once (malloc_events ++ steps 0 1 ++ event 0 Success ∷ event 0 Success ∷ [])).error ≡ Some Trap }
 {}
 
 /// A store of another hart into the reserved word comes between: the store-conditional may fail, and may
@@ -107,9 +116,9 @@ pub fn join_gives_the_value()
 
 /// A write appends the bytes of its buffer, and one of no bytes looks at none.
 pub fn writes_append()
-    ensures clean { (run_of 1 writes writes_events).error ≡ None }
-    ensures output { (run_of 1 writes writes_events).world.output ≡ 104 ∷ 105 ∷ [] }
-    ensures answer { register_after (run_of 1 writes writes_events) 10 ≡ Some (Num 0) }
+    ensures clean { (run_of 1 writes_two_bytes writes_events).error ≡ None }
+    ensures output { (run_of 1 writes_two_bytes writes_events).world.output ≡ 104 ∷ 105 ∷ [] }
+    ensures answer { register_after (run_of 1 writes_two_bytes writes_events) 10 ≡ Some (Num 0) }
 {}
 
 /// What is refused or unknown answers -1, and a refused share 0.
@@ -128,5 +137,5 @@ pub fn plain_runs_join()
 
 /// The plain run of the writes has the same output.
 pub fn plain_runs_write()
-    ensures { plain_output (plain_run_over 1 writes writes_events) ≡ Some (104 ∷ 105 ∷ []) }
+    ensures { plain_output (plain_run_over 1 writes_two_bytes writes_events) ≡ Some (104 ∷ 105 ∷ []) }
 {}

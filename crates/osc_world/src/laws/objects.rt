@@ -2,7 +2,6 @@
 
 ghost use Rattle.std.specs.Prelude.{ℕ, ◌≡◌, ◌≢◌, ◌≤◌, ◌<◌, ◌+◌, ◌++◌, ◌-◌, min, Bool, true, false, [], ◌∷◌, List, take, drop, length, replicate, slice_get, Option, Some, None, Result, Err, ◌&&◌};
 ghost use Rattle.osc_sv39.specs.declared.entries.Access.{Access};
-ghost use Rattle.osc_word.specs.declared.steps.Choice.TheVariants as choice;
 ghost use Rattle.osc_rv.specs.declared.instr.BranchKind.TheVariants.{Beq, Bne};
 ghost use Rattle.osc_rv.specs.declared.instr.LoadKind.{LoadKind};
 ghost use Rattle.osc_rv.specs.declared.instr.Width.{Width};
@@ -13,13 +12,14 @@ ghost use Rattle.osc_world.specs.declared.Byte.{Byte};
 ghost use Rattle.osc_world.specs.declared.Byte.TheVariants.{Number};
 ghost use Rattle.osc_world.specs.declared.ObjectWhy.TheVariants.{DeadObject, BadFree, PointerShared};
 ghost use Rattle.osc_world.specs.declared.Place.{Place};
-ghost use Rattle.osc_world.specs.Values.{is_pointer};
+ghost use Rattle.osc_world.specs.Values.{is_pointer_value};
 ghost use Rattle.osc_world.specs.States.{Hart};
 ghost use Rattle.osc_world.specs.World.{WorldTurn, Object, Live, Dead};
 ghost use Rattle.osc_world.specs.Operations.{is_taken_for};
-ghost use Rattle.osc_world.specs.Accesses.{is_aligned, is_shared, is_reserved_word, disturbed, overlaid};
-ghost use Rattle.osc_world.specs.Instructions.{loads, stores, chosen, Errs, Unfit, objects_of};
-ghost use Rattle.osc_world.specs.Calls.{frees, resized, zeros, without_object};
+ghost use Rattle.osc_world.specs.Accesses.{is_aligned, is_shared_area, is_reserved_word, disturbed, overlaid, object_overlaid, puts};
+ghost use Rattle.osc_world.specs.Offers.{Errs, Unfit};
+ghost use Rattle.osc_world.specs.Instructions.{loads, stores, holds_reservation, succeeds, objects_of};
+ghost use Rattle.osc_world.specs.Calls.{free_deed, resized, zeros, without_object};
 
 /// Pointers to two live objects, neither past its object's end, are different.
 pub fn live_objects_differ()
@@ -29,6 +29,7 @@ pub fn live_objects_differ()
 {}
 
 /// An aligned load or store of a number by a pointer to a dead object errs so, whatever the offset.
+#[tactic(auto, unfolding(crate::specs::Accesses::reached_place))]
 pub fn dead_objects_refuse()
     ensures loads { (turn : WorldTurn) (kind : LoadKind) (rd o k size : ℕ) → slice_get (objects_of turn) o ≡ Some (Dead size)
         → is_aligned (load_width kind) (Ptr o k) ≡ true → loads turn kind rd (Ptr o k) ≡ Err DeadObject }
@@ -38,8 +39,8 @@ pub fn dead_objects_refuse()
 
 /// A pointer to any other place of an object than its start can't be freed, nor can one to a dead object.
 pub fn inner_pointers_are_not_freed()
-    ensures inner { (turn : WorldTurn) (o k : ℕ) → 0 < k → frees turn (Ptr o k) ≡ Err BadFree }
-    ensures dead { (turn : WorldTurn) (o k size : ℕ) → slice_get (objects_of turn) o ≡ Some (Dead size) → frees turn (Ptr o k) ≡ Err BadFree }
+    ensures inner { (turn : WorldTurn) (o k : ℕ) → 0 < k → free_deed turn (Ptr o k) ≡ Err BadFree }
+    ensures dead { (turn : WorldTurn) (o k size : ℕ) → slice_get (objects_of turn) o ≡ Some (Dead size) → free_deed turn (Ptr o k) ≡ Err BadFree }
 {}
 
 /// The bytes of a new object are numbers 0, as many as were asked for.
@@ -64,10 +65,11 @@ pub fn stores_end_reservations()
 /// A store-conditional without a reservation can't succeed: it does not fit, unless it would put a
 /// pointer into a shared region, which is an error.
 pub fn success_needs_a_reservation()
-    ensures fits { (turn : WorldTurn) (width : Width) (rd : ℕ) (value : Value) (at : Place) → turn.hart.reservation ≡ None
-        → (is_pointer value && is_shared at.area) ≡ false → chosen turn choice.Success width rd value at ≡ Unfit }
-    ensures errs { (turn : WorldTurn) (width : Width) (rd : ℕ) (value : Value) (at : Place)
-        → (is_pointer value && is_shared at.area) ≡ true → chosen turn choice.Success width rd value at ≡ Errs PointerShared }
+    ensures fits { (turn : WorldTurn) (width : Width) (bytes rd : ℕ) (value : Value) (at : Place) → turn.hart.reservation ≡ None
+        → (is_pointer_value value && is_shared_area at.area) ≡ false
+        → succeeds turn rd (holds_reservation turn.hart.reservation at width) (puts at bytes value) ≡ Unfit }
+    ensures errs { (turn : WorldTurn) (reserved : Bool) (bytes rd : ℕ) (value : Value) (at : Place)
+        → (is_pointer_value value && is_shared_area at.area) ≡ true → succeeds turn rd reserved (puts at bytes value) ≡ Errs PointerShared }
 {}
 
 /// After its free an object is dead with its size, and every other one is as before.
@@ -85,13 +87,18 @@ pub fn new_objects_come_last()
         → slice_get (objects ++ object ∷ []) o ≡ slice_get objects o }
 {}
 
-/// Stored bytes are read back, and all others stay.
+/// Stored bytes are read back, and all others stay; no store changes how many bytes there are.
 pub fn stores_read_back()
-    ensures size { (bytes others : List Byte) (offset : ℕ) → offset + length others ≤ length bytes → length (overlaid bytes offset others) ≡ length bytes }
+    ensures size { (bytes others : List Byte) (offset : ℕ) → length (overlaid bytes offset others) ≡ length bytes }
     ensures stored { (bytes others : List Byte) (offset : ℕ) → offset + length others ≤ length bytes
         → take (length others) (drop offset (overlaid bytes offset others)) ≡ others }
-    ensures below { (bytes others : List Byte) (offset i : ℕ) → offset + length others ≤ length bytes → i < offset
+    ensures below { (bytes others : List Byte) (offset i : ℕ) → i < offset
         → slice_get (overlaid bytes offset others) i ≡ slice_get bytes i }
-    ensures above { (bytes others : List Byte) (offset i : ℕ) → offset + length others ≤ length bytes → offset + length others ≤ i
+    ensures above { (bytes others : List Byte) (offset i : ℕ) → offset + length others ≤ i
         → slice_get (overlaid bytes offset others) i ≡ slice_get bytes i }
+{}
+
+/// No store revives a dead object.
+pub fn stores_revive_nothing()
+    ensures { (offset size : ℕ) (bytes : List Byte) → object_overlaid offset bytes (Dead size) ≡ Dead size }
 {}
