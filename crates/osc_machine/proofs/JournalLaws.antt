@@ -33,7 +33,7 @@ no_child : (c : Call) (a : Answer) (l : Ledger) → tells_nothing a ≡ true →
 no_child Fork (Number child) l h = tells_no h
 no_child _ _ l h = refl
 
-noted_keeps : (config : Config) (n : ℕ) (entry : Entry) (ledgers : List Ledger) → tells_nothing entry.answer ≡ true → noted config n entry ledgers ≡ ledgers
+pub noted_keeps : (config : Config) (n : ℕ) (entry : Entry) (ledgers : List Ledger) → tells_nothing entry.answer ≡ true → noted config n entry ledgers ≡ ledgers
 noted_keeps config n entry ledgers h =
     let l = ledger_at ledgers entry.pid in
     ap (λ x. slice_set ledgers entry.pid x ++ child_of entry.call entry.answer l) (told_keeps config n entry.call entry.answer l h)

@@ -7,3 +7,4 @@ pub mod AccessLaws
 pub mod CountLaws
 pub mod GivingLaws
 pub mod GrowthLaws
+pub mod LeftOut

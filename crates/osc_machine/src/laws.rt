@@ -3,6 +3,7 @@
 ghost use Rattle.std.specs.Prelude.{ℕ, ◌≡◌, List, [], ◌∷◌};
 ghost use Rattle.osc_machine.specs.Picks.{picks};
 ghost use Rattle.osc_machine.specs.Did.{TurnsByRow, StepsByRow};
+ghost use Rattle.osc_machine.specs.Agreements.{RefusedEntriesLeftOut};
 ghost use Rattle.osc_machine.specs.Laws.{
   AccessesShow,
   GrowsInSteps,
@@ -96,7 +97,9 @@ pub fn accesses_show()
     ensures { AccessesShow }
 {}
 
-/// An entry of a journal that was refused tells nothing of any process.
+/// An entry of a journal that was refused tells nothing of any process: a journal without its refused
+/// entries tells the same, but for the places of its calls.
 pub fn refused_entries_tell_nothing()
-    ensures { RefusedEntriesTellNothing }
+    ensures entry { RefusedEntriesTellNothing }
+    ensures journal { RefusedEntriesLeftOut }
 {}
