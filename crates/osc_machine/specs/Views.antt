@@ -1,8 +1,11 @@
 -- What a state shows of its run: the kernel, wherever it is, and with it the output, the reports, the
 -- journal and how process 0 ended; and the numbers of the summary. This project's own.
-use Rattle.std.specs.Prelude.{ℕ, ◌+◌, ◌-◌, ◌^◌, min, Bool, false, ◌==◌, if◌then◌else◌, Option, None, List, [], ◌∷◌, length, sum_by, option_map}
+use Rattle.std.specs.Prelude.{ℕ, ◌+◌, ◌-◌, ◌^◌, min, Bool, false, ◌==◌, if◌then◌else◌, Option, Some, None, List, [], ◌∷◌, length, sum_by, option_map, find, is_none}
+use Rattle.std.specs.List.{filter_map}
 use Rattle.std.specs.Option.{option_map_or, option_or, option_and_then}
 use Rattle.osc_word.specs.declared.calls.Entry.{Entry}
+use Rattle.osc_word.specs.declared.steps.Label.{Label}
+use Rattle.osc_word.specs.declared.steps.Label.TheVariants.{Freed}
 use Rattle.osc_word.specs.Environment.{fault_status}
 use Rattle.osc_calls.specs.declared.Report.{Report}
 use Rattle.osc_calls.specs.Kernel.{KernelState, ended, is_over, granted, peak}
@@ -51,6 +54,20 @@ full_at _ = false
 
 abbrev pub journal_full : HartState → Bool
 journal_full h = full_at h.place
+
+-- ---- what a step shows
+-- the object that a label tells to be freed
+abbrev pub freed_object : Label → Option ℕ
+freed_object (Freed pid object call) = Some object
+freed_object _ = None
+
+-- the objects that a step freed, in their order
+abbrev pub freed_in : List Label → List ℕ
+freed_in shows = filter_map freed_object shows
+
+-- the label that it shows beside them
+abbrev pub label_in : List Label → Option Label
+label_in shows = find (λ label. is_none (freed_object label)) shows
 
 -- ---- counts
 -- a sum of counts stands still at the greatest number of 64 bits

@@ -28,7 +28,7 @@ use Rattle.osc_machine.specs.Parts.{State}
 use Rattle.osc_machine.specs.Step.{step}
 use Rattle.osc_machine.specs.Run.{run}
 use Rattle.osc_machine.specs.Start.{started}
-use Rattle.osc_machine.specs.Views.{machine_over, status_of, counts_of}
+use Rattle.osc_machine.specs.Views.{machine_over, status_of, counts_of, freed_in, label_in}
 use Rattle.osc_machine.specs.DeadPages.{Grave, shadow, dead_at, waiting_at, shadow_at}
 use Rattle.osc_machine.specs.Replay.{Ledger, first_ledger, replay}
 use Rattle.osc_machine.specs.Refusals.{Setting, given_up, reasons, refusal_told, used}
@@ -284,6 +284,16 @@ pub record PagesDie : Type 0 where
   pub parent : dead_at (granted ∷ Forked 0 1 ∷ Freeing 1 0 1 ∷ Freed 1 0 1 ∷ []) 0 0x1000000 ≡ None
   pub moved : dead_at (granted ∷ Moved 0 0 1 1 0x1000001 1 30 ∷ []) 0 0x1000000 ≡ Some grave
   pub moved_to : shadow_at (granted ∷ Moved 0 0 1 1 0x1000001 1 30 ∷ []) 0 0x1000001 ≡ Some (shadow 1 0x1000001 1)
+
+-- ---- what a step shows: two objects are freed, and a third is moved
+abbrev pub shown : List Label
+shown = Freed 0 4 7 ∷ Freed 0 2 9 ∷ Moved 0 1 9 5 0x1000001 1 30 ∷ []
+
+pub record ViewsSeen : Type 0 where
+  pub freed : freed_in shown ≡ 4 ∷ 2 ∷ []
+  pub label : label_in shown ≡ Some (Moved 0 1 9 5 0x1000001 1 30)
+  pub alone : label_in (granted ∷ []) ≡ Some granted
+  pub only_freed : label_in (Freed 0 4 7 ∷ []) ≡ None
 
 -- ---- the first program: addi a0, x0, 7; addi a7, x0, 1; ecall
 abbrev pub exit_image : Image

@@ -17,6 +17,7 @@ ghost use Rattle.osc_machine.specs.Worked.{
   FirstReasonsTold,
   LeavesGivenUp,
   PagesDie,
+  ViewsSeen,
   FirstProgramEnds,
   FirstProgramEndsDeeper,
 };
@@ -62,6 +63,11 @@ pub fn first_reasons_told()
 /// Which pages wait, and which are dead.
 pub fn pages_die()
     ensures { PagesDie }
+{}
+
+/// What a step shows, as the objects that were freed and the label beside them.
+pub fn views_seen()
+    ensures { ViewsSeen }
 {}
 
 /// The first program ends with its 16th step, and with four levels of page tables with its 17th.
