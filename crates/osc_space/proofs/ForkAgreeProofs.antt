@@ -24,9 +24,9 @@ use Rattle.osc_space.specs.LeafFlags.{read_write_at}
 use Rattle.osc_space.specs.Objects.{has_page, is_live, is_live_page}
 use Rattle.osc_space.specs.Space.{Space}
 use Rattle.osc_space.specs.Share.{Regions, shared_frames}
-use Rattle.osc_space.specs.Fork.{Forked, table_frame_of, heap_frame_of, frame_of_page, image_frames, own_frames, is_private, copy_by, copy_job, fork_plan}
+use Rattle.osc_space.specs.Fork.{Forked, table_frame_of, heap_frame_of, frame_of_page, image_frames, frames_owned, is_private, copy_by, copy_job, fork_plan}
 use Rattle.osc_space.specs.ForkLaws.{CopiesApart, CopiesEach, IsCopy, AreCopies}
-use Rattle.osc_space.specs.Agree.{AreTaken, frames_of, HeapAgrees, SpaceAgrees}
+use Rattle.osc_space.specs.Agree.{AllTaken, frames_of, HeapAgrees, SpaceAgrees}
 use Rattle.osc_space.specs.ForkAgrees.{ForksAgree}
 use Rattle.osc_space.proofs.ForkLawProofs.{is_member, block_member, forks_apart, forks_copy_each}
 
@@ -41,7 +41,7 @@ index_of [] i x e = cc
 index_of (y ∷ xs) zero x e = cc
 index_of (y ∷ xs) (suc i) x e = index_of xs i x e
 
-taken_at : (free : List Bool) (frames : List ℕ) (f : ℕ) → AreTaken free frames → is_member f frames ≡ true → slice_get free f ≡ Some false
+taken_at : (free : List Bool) (frames : List ℕ) (f : ℕ) → AllTaken free frames → is_member f frames ≡ true → slice_get free f ≡ Some false
 taken_at free [] f t m = cc
 taken_at free (x ∷ frames) f t m = go (x == f) refl m (taken_at free frames f t.1)
   where
@@ -125,14 +125,14 @@ found test (o ∷ objects) h = go (test o) refl h (found test objects)
     go true e k rest = record { number = 0; of = o; there = refl; passes = e }
     go false e k rest = let r = rest k in record { number = suc r.number; of = r.of; there = r.there; passes = r.passes }
 
-heap_taken : (s : Space) (free : List Bool) (page frame : ℕ) → AreTaken free (frames_of s) → frame_of s.heap.pages page ≡ Some frame → slice_get free frame ≡ Some false
+heap_taken : (s : Space) (free : List Bool) (page frame : ℕ) → AllTaken free (frames_of s) → frame_of s.heap.pages page ≡ Some frame → slice_get free frame ≡ Some false
 heap_taken s free page frame t e =
     taken_at free (frames_of s) frame t
-    (in_first frame (own_frames s) (shared_frames s.tables)
+    (in_first frame (frames_owned s) (shared_frames s.tables)
     (in_first frame (map table_frame_of s.tables.tables ++ map heap_frame_of s.heap.pages) (image_frames s.tables)
     (in_second frame (map table_frame_of s.tables.tables) (map heap_frame_of s.heap.pages) (block_member s.heap.pages page frame e))))
 
-over_block : (s : Space) (free : List Bool) (page : ℕ) (m : Mapping) → AreTaken free (frames_of s) → option_map read_write_at (frame_of s.heap.pages page) ≡ Some m → slice_get free m.frame ≡ Some false
+over_block : (s : Space) (free : List Bool) (page : ℕ) (m : Mapping) → AllTaken free (frames_of s) → option_map read_write_at (frame_of s.heap.pages page) ≡ Some m → slice_get free m.frame ≡ Some false
 over_block s free page m t e = go (frame_of s.heap.pages page) refl e
   where
     go : (o : Option ℕ) → frame_of s.heap.pages page ≡ o → option_map read_write_at o ≡ Some m → slice_get free m.frame ≡ Some false
@@ -141,7 +141,7 @@ over_block s free page m t e = go (frame_of s.heap.pages page) refl e
         let is : read_write_at frame ≡ m = cc in
         subst (λ x. slice_get free x.frame ≡ Some false) is (heap_taken s free page frame t h)
 
-heap_mapped : (kind : HeapKind) (s : Space) (free : List Bool) (n : ℕ) (m : Mapping) → HeapAgrees kind s → AreTaken free (frames_of s) → mapping_at s.tables.pages n ≡ Some m → (is_shadow n || is_canonical_page n) ≡ true → slice_get free m.frame ≡ Some false
+heap_mapped : (kind : HeapKind) (s : Space) (free : List Bool) (n : ℕ) (m : Mapping) → HeapAgrees kind s → AllTaken free (frames_of s) → mapping_at s.tables.pages n ≡ Some m → (is_shadow n || is_canonical_page n) ≡ true → slice_get free m.frame ≡ Some false
 heap_mapped Plain s free n m h t e r = go (is_shadow n) refl r
   where
     go : (b : Bool) → is_shadow n ≡ b → (b || is_canonical_page n) ≡ true → slice_get free m.frame ≡ Some false
@@ -170,11 +170,11 @@ mapped_taken kind s regions free n m a e = go (is_image_or_stack n) (is_shared n
     go : (b c : Bool) → is_image_or_stack n ≡ b → is_shared n ≡ c → ((b || c) || is_shadow n || is_canonical_page n) ≡ true → slice_get free m.frame ≡ Some false
     go true c i j r =
         taken_at free (frames_of s) m.frame a.taken
-        (in_first m.frame (own_frames s) (shared_frames s.tables)
+        (in_first m.frame (frames_owned s) (shared_frames s.tables)
         (in_second m.frame (map table_frame_of s.tables.tables ++ map heap_frame_of s.heap.pages) (image_frames s.tables) (mapped_member is_image_or_stack s.tables.pages n m i e)))
     go false true i j r =
         taken_at free (frames_of s) m.frame a.taken
-        (in_second m.frame (own_frames s) (shared_frames s.tables) (mapped_member is_shared s.tables.pages n m j e))
+        (in_second m.frame (frames_owned s) (shared_frames s.tables) (mapped_member is_shared s.tables.pages n m j e))
     go false false i j r = heap_mapped kind s free n m a.heap a.taken e r
 
 -- ---- the copies

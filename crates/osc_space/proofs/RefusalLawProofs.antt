@@ -20,7 +20,7 @@ use Rattle.osc_space.specs.Realloc.{stays, frames_for, realloc_made, realloc_rea
 use Rattle.osc_space.specs.PlainHeap.{block_reasons, plain_reasons, plain_malloc_in, plain_malloc_plan, plain_free_of, plain_free_plan, kept_bytes, plain_resize, plain_realloc_reasons, plain_realloc_of, plain_realloc_plan}
 use Rattle.osc_space.specs.Fork.{fork_reasons}
 use Rattle.osc_space.specs.Share.{Sharing, next_shared_page, share_reasons}
-use Rattle.osc_space.specs.RefusalLaws.{is_refusal, GoesByReasons, PlansGoByReasons, RefusalsKeep, RefusedForWant, ObjectRefused, ReallocRefused, PlainRefused, ForkRefused, ShareRefused}
+use Rattle.osc_space.specs.RefusalLaws.{is_refusal, GoesByReasons, PlansGoByReasons, RefusalsKeep, RefusedForWant, ObjectRefused, ReallocRefused, PlainRefused, ForkRefusedForWant, ShareRefusedForWant}
 
 -- ---- plans
 goes : (reasons : List Reason) (d : Draft) (made : Outcome) → is_refusal made.answer ≡ false → GoesByReasons reasons d (unless (first_reason reasons) d made)
@@ -121,14 +121,14 @@ plain_refused n d = record {
   none = λ h. one_is _ false _ (grind (arith, nat_tests, h));
 }
 
-pub fork_refused : (s : Space) (free : List Bool) → ForkRefused s free
+pub fork_refused : (s : Space) (free : List Bool) → ForkRefusedForWant s free
 unfolding fork_reasons
 fork_refused s free = record {
   lack = λ h. one_is _ true _ (grind (arith, nat_tests, h));
   none = λ h. one_is _ false _ (grind (arith, nat_tests, h));
 }
 
-pub share_refused : (n : ℕ) (s : Sharing) → ShareRefused n s
+pub share_refused : (n : ℕ) (s : Sharing) → ShareRefusedForWant n s
 unfolding share_reasons
 share_refused n s =
     let lacks = nat_lt (free_count s.free) (n + need s.tables (next_shared_page s.tables) n) in

@@ -17,7 +17,7 @@ use Rattle.osc_space.specs.LeafFlags.{read_write_at}
 use Rattle.osc_space.specs.Objects.{mark, fact, has_page, is_live, is_live_page, AreGranted}
 use Rattle.osc_space.specs.Header.{block_of}
 use Rattle.osc_space.specs.Space.{Space}
-use Rattle.osc_space.specs.Fork.{own_frames}
+use Rattle.osc_space.specs.Fork.{frames_owned}
 use Rattle.osc_space.specs.Share.{Regions, next_shared_page, shared_frames, holders}
 
 -- ---- lists of numbers
@@ -25,13 +25,13 @@ abbrev pub AreApart : List ℕ → Type 0
 AreApart [] = Unit {0}
 AreApart (x ∷ xs) = (list_any (λ y. y == x) xs ≡ false) × AreApart xs
 
-abbrev pub AreTaken : List Bool → List ℕ → Type 0
-AreTaken free [] = Unit {0}
-AreTaken free (x ∷ xs) = (slice_get free x ≡ Some false) × AreTaken free xs
+abbrev pub AllTaken : List Bool → List ℕ → Type 0
+AllTaken free [] = Unit {0}
+AllTaken free (x ∷ xs) = (slice_get free x ≡ Some false) × AllTaken free xs
 
 -- the frames of the tables, of the pages that hold blocks, and of the image, the stack and the regions
 abbrev pub frames_of : Space → List ℕ
-frames_of s = own_frames s ++ shared_frames s.tables
+frames_of s = frames_owned s ++ shared_frames s.tables
 
 -- ---- objects and blocks
 abbrev pub is_waiting : Space → ℕ → Bool
@@ -111,7 +111,7 @@ pub record SpaceAgrees (kind : HeapKind) (s : Space) (regions : Regions) (free :
   pub shared : RegionsAgree s.tables regions free
   pub ranges : (page : ℕ) → is_some (mapping_at s.tables.pages page) ≡ true → is_in_map page ≡ true
   pub apart : AreApart (frames_of s)
-  pub taken : AreTaken free (frames_of s)
+  pub taken : AllTaken free (frames_of s)
 
 -- room for the jobs of any plan in a machine of so many frames
 abbrev pub HasSpare : JobList → ℕ → Type 0

@@ -7,7 +7,7 @@ use Rattle.osc_space.specs.Malloc.{malloc_plan}
 use Rattle.osc_space.specs.Free.{free_plan}
 use Rattle.osc_space.specs.Realloc.{realloc_plan}
 use Rattle.osc_space.specs.Fork.{Forked}
-use Rattle.osc_space.specs.Examples.{after, one_object, one_header, child_of}
+use Rattle.osc_space.specs.Examples.{after, one_object, one_header, fork_of}
 
 -- two objects of 24 bytes: a free of the first, and then a free of the second, or a realloc of it to
 -- as many bytes
@@ -45,4 +45,4 @@ batch_frames = map (λ (o : Outcome). (after o).free) batch
 
 -- a child of a process whose only object waits
 unfoldable pub waiting_child : Forked
-waiting_child = child_of (after (first_free one_object))
+waiting_child = fork_of (after (first_free one_object))

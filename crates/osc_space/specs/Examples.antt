@@ -98,8 +98,8 @@ free_answers =
     ∷ []
 
 -- which frames are free before and after a free of it is finished
-unfoldable pub free_frames : List (List Bool)
-free_frames =
+unfoldable pub frames_freed : List (List Bool)
+frames_freed =
     (free_plan (terms 2 1) 0x1000000010 one_header one_object).draft.free
     ∷ (after (free_plan (terms 2 1) 0x1000000010 one_header one_object)).free
     ∷ []
@@ -118,12 +118,12 @@ one_shared = share_plan 1 unshared
 abbrev pub fork_refusal : Draft → Option Answer
 fork_refusal d = first_reason (fork_reasons d.space d.free)
 
-abbrev pub child_of : Draft → Forked
-child_of d = fork_plan d.space d.free
+abbrev pub fork_of : Draft → Forked
+fork_of d = fork_plan d.space d.free
 
 -- a child of the process with one object
 unfoldable pub one_child : Forked
-one_child = child_of one_object
+one_child = fork_of one_object
 
 -- reallocs of it to 20 bytes, which stays, and to 13 bytes, which moves: no whole words are kept
 unfoldable pub stay_part_jobs : List Job

@@ -27,12 +27,12 @@ pub record Ended : Type 0 where
   pub free : List Bool
 
 -- the records of the objects stay, and none waits
-abbrev pub ended_with : Space → RegionsAndFree → Ended
-ended_with s r = record {
+abbrev pub ended_space : Space → RegionsAndFree → Ended
+ended_space s r = record {
   space = record s { tables = emptied s.tables; waiting = []; heap = (clear s.heap r.free).heap };
   regions = r.regions;
   free = set_free true (image_frames s.tables) (frames_given (s.tables.tables ++ s.tables.aside) (clear s.heap r.free).free);
 }
 
 unfoldable pub ended : Regions → Space → List Bool → Ended
-ended regions s free = ended_with s (leave s.tables (record { regions = regions; free = free }))
+ended regions s free = ended_space s (leave s.tables (record { regions = regions; free = free }))

@@ -32,11 +32,11 @@ image_frames t = map frame_of_page (filter (λ (m : Mapped). is_image_or_stack m
 
 -- the frames of its tables, of the pages that hold blocks, and of its image and stack: all but those
 -- of shared regions
-abbrev pub own_frames : Space → List ℕ
-own_frames s = map table_frame_of s.tables.tables ++ map heap_frame_of s.heap.pages ++ image_frames s.tables
+abbrev pub frames_owned : Space → List ℕ
+frames_owned s = map table_frame_of s.tables.tables ++ map heap_frame_of s.heap.pages ++ image_frames s.tables
 
 abbrev pub is_private : Space → ℕ → Bool
-is_private s frame = list_any (λ own. own == frame) (own_frames s)
+is_private s frame = list_any (λ own. own == frame) (frames_owned s)
 
 -- ---- frames of the machine
 -- these among so many, ascending

@@ -97,11 +97,11 @@ pub record PlainRefused (n : ℕ) (d : Draft) : Type 0 where
   pub lack : free_count d.free < plain_want n d → first_reason (plain_reasons (room_of n) d) ≡ Some answer.NoFrames
   pub none : plain_want n d ≤ free_count d.free → first_reason (plain_reasons (room_of n) d) ≡ None
 
-pub record ForkRefused (s : Space) (free : List Bool) : Type 0 where
+pub record ForkRefusedForWant (s : Space) (free : List Bool) : Type 0 where
   pub lack : free_count free < length (private_frames s (length free)) → first_reason (fork_reasons s free) ≡ Some answer.NoFrames
   pub none : length (private_frames s (length free)) ≤ free_count free → first_reason (fork_reasons s free) ≡ None
 
-pub record ShareRefused (n : ℕ) (s : Sharing) : Type 0 where
+pub record ShareRefusedForWant (n : ℕ) (s : Sharing) : Type 0 where
   pub empty : n ≡ 0 → first_reason (share_reasons n s) ≡ Some answer.Empty
   pub lack : 0 < n → free_count s.free < n + need s.tables (next_shared_page s.tables) n
       → first_reason (share_reasons n s) ≡ Some answer.NoFrames

@@ -10,7 +10,7 @@ ghost use Rattle.osc_space.specs.Space.{Space, Draft};
 ghost use Rattle.osc_space.specs.Header.{Found};
 ghost use Rattle.osc_space.specs.Share.{Sharing};
 ghost use Rattle.osc_space.specs.Used.{tables_used};
-ghost use Rattle.osc_space.specs.RefusalLaws.{PlansGoByReasons, RefusalsKeep, RefusedForWant, ObjectRefused, ReallocRefused, PlainRefused, ForkRefused, ShareRefused};
+ghost use Rattle.osc_space.specs.RefusalLaws.{PlansGoByReasons, RefusalsKeep, RefusedForWant, ObjectRefused, ReallocRefused, PlainRefused, ForkRefusedForWant, ShareRefusedForWant};
 ghost use Rattle.osc_space.specs.PlanLaws.{MarkNeverFalls, ClearsEachBox, FreesWait, BatchesOfOneFlush, ReallocsFlush, FlushesEnd, FlushGivesUp, AddressesAreFresh};
 ghost use Rattle.osc_space.specs.WordLaws.{StretchesCut, NoPieceCrosses, BlockJobsStay};
 ghost use Rattle.osc_space.specs.ForkLaws.{ForksApart, ForksCopyEach};
@@ -33,8 +33,8 @@ pub fn memory_is_refused_for_want()
     ensures object { (s : Seen) (found : Found) → ObjectRefused s found }
     ensures realloc { (s : Seen) (n : ℕ) (found : Found) (d : Draft) → ReallocRefused s n found d }
     ensures plain { (n : ℕ) (d : Draft) → PlainRefused n d }
-    ensures fork { (s : Space) (free : List Bool) → ForkRefused s free }
-    ensures share { (n : ℕ) (s : Sharing) → ShareRefused n s }
+    ensures fork { (s : Space) (free : List Bool) → ForkRefusedForWant s free }
+    ensures share { (n : ℕ) (s : Sharing) → ShareRefusedForWant n s }
 {}
 
 /// A grant raises the mark by its pages, and nothing lowers it.
