@@ -1,5 +1,5 @@
 -- Each access that is done shows its label.
-use Rattle.std.proofs.Common.{ℕ, ◌≡◌, ◌+◌, ◌-◌, ◌%◌, ◌^◌, true, false, Option, Some, None, List, [], ◌∷◌, option_map, slice_get, sum_by, arith, refl, sym, ap, subst, ◌∙◌}
+use Rattle.std.proofs.Common.{ℕ, ◌≡◌, ◌+◌, ◌-◌, ◌%◌, ◌^◌, true, Option, Some, List, [], ◌∷◌, option_map, slice_get, sum_by, arith, refl, ap, ◌∙◌}
 use Rattle.std.specs.Option.{option_to_list}
 use Rattle.osc_word.specs.declared.calls.Answer.TheVariants as answer
 use Rattle.osc_word.specs.declared.calls.Call.TheVariants as call
@@ -22,12 +22,12 @@ use Rattle.osc_guest.specs.Asks.{ask, ask_at, access_ask}
 use Rattle.osc_guest.specs.User.{UserHart}
 use Rattle.osc_guest.specs.Told.{Told, told, told_at, access_told, gated}
 use Rattle.osc_guest.specs.Told as heard
-use Rattle.osc_calls.specs.Kernel.{KernelState, Committed, UnderWay, Returning}
+use Rattle.osc_calls.specs.Kernel.{KernelState, Committed, Returning}
 use Rattle.osc_calls.specs.JobDone.{job_done}
 use Rattle.osc_calls.specs.Labels.{out_shows, out_count, buffer_shows}
 use Rattle.osc_calls.specs.Moves as move
 use Rattle.osc_machine.specs.Parts.{Outside, Working, HartState, State}
-use Rattle.osc_machine.specs.Turns.{HartTold, Word, Done, touched, guest_ask, place_ask, hart_ask, hart_told, place_told}
+use Rattle.osc_machine.specs.Turns.{Word, Done, touched, guest_ask, place_ask, hart_ask, hart_told, place_told}
 use Rattle.osc_machine.specs.Step.{acted, step_of, step}
 use Rattle.osc_machine.specs.Laws.{is_reservation, done_at, AccessesShow}
 

@@ -1,5 +1,5 @@
 -- Counts: each event of a hart raises its count by one.
-use Rattle.std.proofs.Common.{ℕ, zero, suc, ◌≡◌, ◌≢◌, ◌+◌, ◌-◌, ◌^◌, ◌==◌, min, Bool, true, false, cond, if◌then◌else◌, Option, Some, None, List, [], ◌∷◌, ◌++◌, map, option_map, slice_get, slice_set, sum_by, arith, refl, sym, ap, subst, ◌∙◌}
+use Rattle.std.proofs.Common.{ℕ, zero, suc, ◌≡◌, ◌≢◌, ◌+◌, ◌-◌, ◌^◌, min, Bool, true, false, cond, Option, Some, None, List, [], ◌∷◌, ◌++◌, map, option_map, slice_get, slice_set, sum_by, arith, refl, sym, ap, subst, ◌∙◌}
 use Rattle.std.specs.Option.{option_to_list}
 use Rattle.std.proofs.lemmas.Bool.Decides.{nat_tests}
 use Rattle.std.proofs.lemmas.List.{append-nil}
@@ -11,7 +11,7 @@ use Rattle.osc_word.specs.declared.calls.Resume.{Resume}
 use Rattle.osc_word.specs.declared.orders.Start.{Start}
 use Rattle.osc_word.specs.declared.steps.Choice.{Choice}
 use Rattle.osc_word.specs.declared.steps.Event.{Event}
-use Rattle.osc_calls.specs.Kernel.{KernelState, Shown}
+use Rattle.osc_calls.specs.Kernel.{Shown}
 use Rattle.osc_guest.specs.User.{UserHart, Answered, risen}
 use Rattle.osc_guest.specs.Laws.{count_after}
 use Rattle.osc_guest.proofs.Hands.{choices_counted}
@@ -115,14 +115,14 @@ gave_counts return h = record {
 
 counts_of_row : (h : HartState) (t : HartTold) (turn : Turn) → Turned h t turn → CountsFor h turn
 counts_of_row h t turn (Unmoved i) = rw i (still h)
-counts_of_row h t turn (InGuest said pl i) = rw i (guest_counts h (told h.user said) (choices_counted h.user said))
+counts_of_row h t turn (InGuest said pl he i) = rw i (guest_counts h (told h.user said) (choices_counted h.user said))
 counts_of_row h t turn (TakesKernel k asked pl tk wa i) = rw i (called _ _ _ h)
 counts_of_row h t turn (TakesBox box state k pl ke tk last i) = rw i (called false _ _ (record h { boxes = slice_set h.boxes box (Some state) }))
 counts_of_row h t turn (TakesLastBox box state k pl ke tk last i) = rw i (called true _ _ (record h { boxes = slice_set h.boxes box (Some state) }))
 counts_of_row h t turn (FindsFirst first second word k pl ke tk i) = rw i (record { number = refl; count = refl; own = tt })
 counts_of_row h t turn (FindsSecond found word second k pl ke tk i) = rw i (called true _ _ h)
-counts_of_row h t turn (Works moves left read now word k pl ke pr i) = rw i (called false _ _ (record h { clears = _ }))
-counts_of_row h t turn (EndsJob moves read word k pl ke pr i) = rw i (called false _ _ (record h { clears = _ }))
+counts_of_row h t turn (Works moves left read now word k pl ke wo pr i) = rw i (called false _ _ (record h { clears = _ }))
+counts_of_row h t turn (EndsJob moves read word k pl ke wo pr i) = rw i (called false _ _ (record h { clears = _ }))
 counts_of_row h t turn (GivesBox box k pl ke tk i) = rw i (called false _ _ (record h { boxes = _; clears = _ }))
 counts_of_row h t turn (GivesKernel return pl tk i) = rw i (gave_counts return h)
 

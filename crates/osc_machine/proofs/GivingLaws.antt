@@ -4,7 +4,6 @@ use Rattle.osc_calls.specs.Kernel.{KernelState}
 use Rattle.osc_calls.specs.Boxes.{box_change}
 use Rattle.osc_calls.specs.Moves.{Move}
 use Rattle.osc_calls.specs.Moves as move
-use Rattle.osc_guest.specs.User.{UserHart}
 use Rattle.osc_guest.specs.declared.places.Ask.{Ask}
 use Rattle.osc_guest.specs.declared.places.Ask.TheVariants as guest
 use Rattle.osc_guest.specs.Asks.{ask}

@@ -1,5 +1,5 @@
 -- Objects only grow, and no mark falls: by what a step does to the kernel.
-use Rattle.std.proofs.Common.{ℕ, ◌≡◌, ◌≤◌, Option, Some, None, List, [], ◌∷◌, refl, sym, ap, subst, ◌∙◌}
+use Rattle.std.proofs.Common.{ℕ, ◌≡◌, Option, Some, None, List, [], ◌∷◌, refl, sym, subst, ◌∙◌}
 use Rattle.osc_space.specs.declared.ObjectFact.{ObjectFact}
 use Rattle.osc_space.specs.Objects.{mark}
 use Rattle.osc_calls.specs.Kernel.{KernelState, Process, process_at}

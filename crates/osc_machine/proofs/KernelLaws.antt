@@ -1,5 +1,5 @@
 -- The kernel is in one place, and what a step does to it.
-use Rattle.std.proofs.Common.{ℕ, zero, suc, ◌≡◌, ◌+◌, ◌==◌, Bool, true, false, if◌then◌else◌, Option, Some, None, is_some, List, [], ◌∷◌, ◌++◌, map, option_map, slice_get, slice_set, arith, refl, sym, ap, subst, ◌∙◌, append_assoc}
+use Rattle.std.proofs.Common.{ℕ, zero, suc, ◌≡◌, true, false, Option, Some, None, is_some, List, [], ◌∷◌, ◌++◌, map, option_map, slice_get, slice_set, arith, refl, sym, ap, subst, ◌∙◌, append_assoc}
 use Rattle.std.specs.Option.{option_to_list, option_or, option_map_or}
 use Rattle.std.specs.List.{range_with_len}
 use Rattle.osc_word.specs.declared.calls.Request.{Request}
@@ -22,10 +22,10 @@ use Rattle.osc_guest.specs.Asks.{ask}
 use Rattle.osc_machine.specs.declared.HartAsk.{HartAsk}
 use Rattle.osc_machine.specs.declared.HartAsk.TheVariants as does
 use Rattle.osc_machine.specs.Parts.{CallPlace, Outside, TakingBoxes, FirstWord, SecondWord, Working, GivingBoxes, Returning, Return, HartState, State}
-use Rattle.osc_machine.specs.Turns.{HartTold, Box, Kernel, Word, Gate as ToldGate, OldVersion, Done, Turn, guest_ask, copy_ask, move_ask, place_ask, hart_ask, hart_told, place_told, return_of, place_on, place_begun, first_held, found_words, kernel_taken, handed_kernel}
-use Rattle.osc_machine.specs.Step.{Stepped, stays, step}
+use Rattle.osc_machine.specs.Turns.{HartTold, Box, Kernel, Word, Gate as ToldGate, OldVersion, Done, Turn, guest_ask, move_ask, place_ask, hart_ask, hart_told, place_told, return_of, place_on, place_begun, first_held, found_words, kernel_taken, handed_kernel}
+use Rattle.osc_machine.specs.Step.{Stepped, step}
 use Rattle.osc_machine.specs.Did.{Turned, Unmoved, InGuest, TakesKernel, TakesBox, TakesLastBox, FindsFirst, FindsSecond, Works, EndsJob, GivesBox, GivesKernel, Asks, Did, Stayed, TookBox, GaveBox, ChangedBox, Loaded, Stored, TookGate, FoundOldVersion, OpenedGate, TookKernel, GaveKernel}
-use Rattle.osc_machine.specs.Start.{started, first_hart}
+use Rattle.osc_machine.specs.Start.{first_hart}
 use Rattle.osc_machine.specs.Views.{held_kernel}
 use Rattle.osc_machine.specs.Laws.{is_in_call, HandAgrees, kernels_held, kernels, HasKernel, Moves, Same, Begins, Plans, EndsJob as Ends, Finishes, KernelMoves, KernelStays, KernelSeen, StartHasKernel}
 use Rattle.osc_machine.proofs.RowLaws.{turns_by_row, steps_by_row}
@@ -165,7 +165,7 @@ returning_asks h return e = ap (λ p. place_ask p h) e
 
 hand_of_row : (h : HartState) (t : HartTold) (turn : Turn) (a : HartAsk) → HandAgrees h → hart_ask h ≡ a → IsPlainAsk a → IsPlain t → Turned h t turn → Hand h.kernel turn.hart
 hand_of_row h t turn a g e p q (Unmoved i) = rw i (record { follows = follows_self h.kernel; agrees = g })
-hand_of_row h t turn a g e p q (InGuest said pl i) = rw i (record { follows = follows_self h.kernel; agrees = g })
+hand_of_row h t turn a g e p q (InGuest said pl he i) = rw i (record { follows = follows_self h.kernel; agrees = g })
 hand_of_row h t turn a g e p q (TakesKernel k asked pl tk wa i) = absurd (subst IsPlain tk q)
 hand_of_row h t turn a g e p q (TakesBox box state k pl ke tk last i) = rw i (hand_to h.kernel k k _ ke (Same refl) refl refl)
 hand_of_row h t turn a g e p q (TakesLastBox box state k pl ke tk last i) =
@@ -175,8 +175,8 @@ hand_of_row h t turn a g e p q (FindsFirst first second word k pl ke tk i) = rw 
 hand_of_row h t turn a g e p q (FindsSecond found word second k pl ke tk i) =
     rw i (hand_to h.kernel k (plan (found_words found word) k).kernel _ ke (Plans (found_words found word) refl) refl
     (on_in_call (plan (found_words found word) k).kernel h.boxes))
-hand_of_row h t turn a g e p q (Works moves left read now word k pl ke pr i) = rw i (hand_to h.kernel k k _ ke (Same refl) refl refl)
-hand_of_row h t turn a g e p q (EndsJob moves read word k pl ke pr i) =
+hand_of_row h t turn a g e p q (Works moves left read now word k pl ke wo pr i) = rw i (hand_to h.kernel k k _ ke (Same refl) refl refl)
+hand_of_row h t turn a g e p q (EndsJob moves read word k pl ke wo pr i) =
     rw i (hand_to h.kernel k (job_done word k).kernel _ ke (Ends word refl) refl (on_in_call (job_done word k).kernel h.boxes))
 hand_of_row h t turn a g e p q (GivesBox box k pl ke tk i) = rw i (hand_to h.kernel k k _ ke (Same refl) refl (on_in_call k (slice_set h.boxes box None)))
 hand_of_row h t turn a g e p q (GivesKernel return pl tk i) = absurd (subst IsPlainAsk (sym e ∙ returning_asks h return pl) p)

@@ -1,5 +1,5 @@
 -- Each turn and each step is one of their rows.
-use Rattle.std.proofs.Common.{ℕ, ◌≡◌, ◌+◌, ◌==◌, Bool, true, false, Option, Some, None, List, [], ◌∷◌, slice_get, slice_set, arith, refl, sym, ap, ◌∙◌}
+use Rattle.std.proofs.Common.{ℕ, ◌≡◌, ◌+◌, ◌==◌, Bool, true, false, Option, Some, None, List, slice_get, arith, refl}
 use Rattle.osc_paging.specs.Boxes.{BoxState}
 use Rattle.osc_guest.specs.declared.places.Ask.{Ask}
 use Rattle.osc_guest.specs.declared.places.Ask.TheVariants as guest
@@ -10,9 +10,9 @@ use Rattle.osc_calls.specs.Moves.{Move}
 use Rattle.osc_machine.specs.declared.HartAsk.{HartAsk}
 use Rattle.osc_machine.specs.declared.HartAsk.TheVariants as does
 use Rattle.osc_machine.specs.Parts.{Gate, CallPlace, Outside, TakingBoxes, FirstWord, SecondWord, Working, GivingBoxes, Returning, HartState, State}
-use Rattle.osc_machine.specs.Turns.{HartTold, Box, Kernel, Word, Gate as ToldGate, Busy, OldVersion, Done, Turn, hart_ask, hart_told, place_told, kernel_taken, box_taken, action_done, Progress, StillAt, AllDone, progress_of}
-use Rattle.osc_machine.specs.Step.{Stepped, step, step_of, acted, stays, tells, box_at, takes_box, changes_box, takes_gate, takes_kernel, with_gate, is_shut, is_wanted}
-use Rattle.osc_machine.specs.Did.{Turned, Unmoved, InGuest, TakesKernel, TakesBox, TakesLastBox, FindsFirst, FindsSecond, Works, EndsJob, GivesBox, GivesKernel, Asks, Did, Stayed, TookBox, GaveBox, ChangedBox, Loaded, Stored, TookGate, FoundOldVersion, OpenedGate, TookKernel, GaveKernel, TurnsByRow, StepsByRow}
+use Rattle.osc_machine.specs.Turns.{HartTold, Box, Kernel, Word, Gate as ToldGate, Busy, OldVersion, Done, hart_ask, hart_told, place_told, kernel_taken, box_taken, action_done, MovesLeft, StillAt, AllDone, moves_left}
+use Rattle.osc_machine.specs.Step.{step, step_of, acted, box_at, takes_box, changes_box, takes_gate, takes_kernel, is_shut, is_wanted}
+use Rattle.osc_machine.specs.Did.{word_told, Turned, Unmoved, InGuest, TakesKernel, TakesBox, TakesLastBox, FindsFirst, FindsSecond, Works, EndsJob, GivesBox, GivesKernel, Asks, Did, Stayed, TookBox, GaveBox, ChangedBox, Loaded, Stored, TookGate, FoundOldVersion, OpenedGate, TookKernel, GaveKernel, TurnsByRow, StepsByRow}
 
 -- ---- turns
 kernel_row : (a : Ask) (h : HartState) (k : KernelState) → h.place ≡ Outside → ask h.user ≡ a → Turned h (Kernel k) (kernel_taken a k h)
@@ -24,24 +24,24 @@ last_row : (b : Bool) (h : HartState) (box : ℕ) (state : BoxState) (k : Kernel
 last_row true h box state k p e b = TakesLastBox box state k p e refl b (grind (arith, b))
 last_row false h box state k p e b = TakesBox box state k p e refl b (grind (arith, b))
 
-work_row : (g : Progress) (h : HartState) (t : HartTold) (moves : List Move) (read : Option ℕ) (word : ℕ) (k : KernelState) → h.place ≡ Working moves read → h.kernel ≡ Some k
-    → progress_of moves read word ≡ g → Turned h t (action_done moves read word k h)
-work_row (StillAt left now) h t moves read word k p e g = Works moves left read now word k p e g (grind (arith, g))
-work_row AllDone h t moves read word k p e g = EndsJob moves read word k p e g (grind (arith, g))
+work_row : (g : MovesLeft) (h : HartState) (t : HartTold) (moves : List Move) (read : Option ℕ) (word : ℕ) (k : KernelState) → h.place ≡ Working moves read → h.kernel ≡ Some k
+    → word ≡ word_told t → moves_left moves read word ≡ g → Turned h t (action_done moves read word k h)
+work_row (StillAt left now) h t moves read word k p e w g = Works moves left read now word k p e w g (grind (arith, g))
+work_row AllDone h t moves read word k p e w g = EndsJob moves read word k p e w g (grind (arith, g))
 
 row_at : (p : CallPlace) (o : Option KernelState) (h : HartState) (t : HartTold) → h.place ≡ p → h.kernel ≡ o → Turned h t (place_told p o h t)
-row_at Outside o h (Box box) p e = InGuest (heard.Box box) p refl
+row_at Outside o h (Box box) p e = InGuest (heard.Box box) p refl refl
 row_at Outside o h (Kernel k) p e = kernel_row (ask h.user) h k p refl
-row_at Outside o h (Word word) p e = InGuest (heard.Word word) p refl
-row_at Outside o h (ToldGate version) p e = InGuest (heard.Gate version) p refl
+row_at Outside o h (Word word) p e = InGuest (heard.Word word) p refl refl
+row_at Outside o h (ToldGate version) p e = InGuest (heard.Gate version) p refl refl
 row_at Outside o h Busy p e = Unmoved refl
-row_at Outside o h OldVersion p e = InGuest heard.OldVersion p refl
-row_at Outside o h Done p e = InGuest heard.Done p refl
+row_at Outside o h OldVersion p e = InGuest heard.OldVersion p refl refl
+row_at Outside o h Done p e = InGuest heard.Done p refl refl
 row_at (TakingBoxes box) (Some k) h (Box state) p e = last_row (box + 1 == h.count) h box state k p e refl
 row_at (FirstWord first second) (Some k) h (Word word) p e = FindsFirst first second word k p e refl refl
 row_at (SecondWord found second) (Some k) h (Word word) p e = FindsSecond found word second k p e refl refl
-row_at (Working moves read) (Some k) h (Word word) p e = work_row (progress_of moves read word) h (Word word) moves read word k p e refl
-row_at (Working moves read) (Some k) h Done p e = work_row (progress_of moves read 0) h Done moves read 0 k p e refl
+row_at (Working moves read) (Some k) h (Word word) p e = work_row (moves_left moves read word) h (Word word) moves read word k p e refl refl
+row_at (Working moves read) (Some k) h Done p e = work_row (moves_left moves read 0) h Done moves read 0 k p e refl refl
 row_at (GivingBoxes box) (Some k) h Done p e = GivesBox box k p e refl refl
 row_at (Returning return) o h Done p e = GivesKernel return p refl refl
 row_at _ o h t p e = Unmoved refl

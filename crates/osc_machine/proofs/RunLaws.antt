@@ -1,12 +1,12 @@
 -- How runs go on and end.
-use Rattle.std.proofs.Common.{ℕ, zero, suc, ◌+◌, ◌≡◌, ◌<◌, Bool, true, false, if◌then◌else◌, List, [], ◌∷◌, ◌++◌, length, take, arith, refl, sym, ap, ◌∙◌, append_assoc}
+use Rattle.std.proofs.Common.{ℕ, zero, suc, ◌≡◌, ◌<◌, Bool, true, false, if◌then◌else◌, List, [], ◌∷◌, ◌++◌, length, take, arith, refl, sym, ap, ◌∙◌, append_assoc}
 use Rattle.std.specs.Option.{option_to_list}
 use Rattle.std.proofs.lemmas.List.{append-nil}
 use Rattle.osc_machine.specs.Parts.{State}
 use Rattle.osc_machine.specs.Step.{step}
 use Rattle.osc_machine.specs.Views.{machine_over}
 use Rattle.osc_machine.specs.Run.{Ran, with_step, run_on, run, at, until_over}
-use Rattle.osc_machine.specs.Laws.{RunsJoin, BeginsWith, RunsBegin, EndsThere, RunsEnd}
+use Rattle.osc_machine.specs.Laws.{RunsJoin, BeginsWith, RunsBegin, RunsEnd}
 
 pub runs_join : RunsJoin
 unfolding run_on

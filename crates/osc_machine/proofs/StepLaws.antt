@@ -1,15 +1,14 @@
 -- Steps that stay, and what a step leaves alone.
-use Rattle.std.proofs.Common.{ℕ, ◌≡◌, ◌≢◌, Bool, true, false, if◌then◌else◌, Option, Some, None, List, length, slice_get, slice_set, ◌+◌, ◌*◌, arith, refl, sym, ap, subst, ◌∙◌}
+use Rattle.std.proofs.Common.{ℕ, ◌≡◌, ◌≢◌, Bool, true, false, if◌then◌else◌, Option, Some, None, length, slice_get, slice_set, ◌+◌, ◌*◌, arith, refl, sym, ap, subst, ◌∙◌}
 use Rattle.std.proofs.lemmas.Bool.Decides.{nat_tests}
 use Rattle.std.proofs.lemmas.List.{length-set}
-use Rattle.osc_sv39.specs.Walk.{put_word}
 use Rattle.osc_paging.proofs.WordLists.{slice_get-set}
 use Rattle.osc_calls.specs.Kernel.{KernelState}
 use Rattle.osc_machine.specs.declared.HartAsk.{HartAsk}
-use Rattle.osc_machine.specs.declared.HartAsk.TheVariants.{TakeBox, GiveBox, ChangeBox, Load, Store, TakeGate, OpenGate, TakeKernel, GiveKernel, Rest}
-use Rattle.osc_machine.specs.Parts.{CallPlace, Outside, TakingBoxes, FirstWord, SecondWord, Working, GivingBoxes, Returning, HartState, State}
+use Rattle.osc_machine.specs.declared.HartAsk.TheVariants.{TakeBox, ChangeBox, TakeGate, TakeKernel}
+use Rattle.osc_machine.specs.Parts.{CallPlace, Outside, Returning, HartState, State}
 use Rattle.osc_machine.specs.Turns.{Busy, quietly, hart_ask, hart_told, place_told}
-use Rattle.osc_machine.specs.Step.{Stepped, stays, tells, is_shut, takes_box, changes_box, takes_gate, takes_kernel, acted, step_of, step}
+use Rattle.osc_machine.specs.Step.{Stepped, stays, is_shut, takes_box, changes_box, takes_gate, takes_kernel, acted, step_of, step}
 use Rattle.osc_machine.specs.Did.{Did, Stayed, TookBox, GaveBox, ChangedBox, Loaded, Stored, TookGate, FoundOldVersion, OpenedGate, TookKernel, GaveKernel}
 use Rattle.osc_machine.specs.Laws.{NobodyStays, RestStays, BusyKeeps, IsTaken, TakenStays, OthersStay, SameSizes, SizesStay, OneThing, NoThing, OneWord, OneGate, OneBox, TheKernel, OneThingChanges}
 use Rattle.osc_machine.proofs.RowLaws.{steps_by_row}

@@ -1,7 +1,6 @@
 -- What the journal and the trace of a run tell is what the kernel keeps, whenever it is at home. This
 -- project's own.
-use Rattle.std.specs.Prelude.{ℕ, ◌≡◌, ◌==◌, not, Bool, true, false, Option, Some, None, is_some, List, option_map, map, filter, take, count_by}
-use Rattle.std.specs.List.{list_any}
+use Rattle.std.specs.Prelude.{ℕ, ◌≡◌, not, Bool, true, false, Option, Some, None, is_some, List, option_map, map, filter, take, count_by}
 use Rattle.std.specs.Option.{option_and_then}
 use Rattle.osc_word.specs.declared.settings.Config.{Config}
 use Rattle.osc_word.specs.declared.calls.Answer.{Answer}
@@ -12,6 +11,7 @@ use Rattle.osc_slot.specs.declared.Block.{Block}
 use Rattle.osc_space.specs.declared.ObjectFact.{ObjectFact}
 use Rattle.osc_space.specs.declared.ObjectState.{ObjectState}
 use Rattle.osc_space.specs.declared.ObjectState.TheVariants.{Live, Dead}
+use Rattle.osc_space.specs.Agree.{is_waiting}
 use Rattle.osc_space.specs.Objects.{Seen, object_on}
 use Rattle.osc_space.specs.Space.{Space}
 use Rattle.osc_calls.specs.CallLaws.{is_denied}
@@ -46,12 +46,12 @@ abbrev pub tells_nothing : Answer → Bool
 tells_nothing Unknown = true
 tells_nothing answer = is_denied answer
 
-abbrev pub is_kept : Entry → Bool
-is_kept entry = not (tells_nothing entry.answer)
+abbrev pub tells : Entry → Bool
+tells entry = not (tells_nothing entry.answer)
 
 -- the place of a call once the refused entries are left out
-abbrev pub place_kept : List Entry → ℕ → ℕ
-place_kept journal call = count_by is_kept (take call journal)
+abbrev pub new_place : List Entry → ℕ → ℕ
+new_place journal call = count_by tells (take call journal)
 
 abbrev pub state_renumbered : (ℕ → ℕ) → ObjectState → ObjectState
 state_renumbered place Live = Live
@@ -68,7 +68,7 @@ renumbered place l = record l {
 abbrev pub RefusedEntriesLeftOut : Type 0
 RefusedEntriesLeftOut =
     (config : Config) (journal : List Entry)
-    → replay config (filter is_kept journal) ≡ map (renumbered (place_kept journal)) (replay config journal)
+    → replay config (filter tells journal) ≡ map (renumbered (new_place journal)) (replay config journal)
 
 -- ---- the trace
 abbrev pub shadow_of : Seen → Shadow
@@ -81,9 +81,6 @@ shadow_kept space page = option_map shadow_of (object_on space.objects page)
 abbrev pub grave_by : ObjectState → Seen → Option Grave
 grave_by Live s = None
 grave_by (Dead call) s = Some (record { shadow = shadow_of s; call = call })
-
-abbrev pub is_waiting : Space → Seen → Bool
-is_waiting space s = list_any (λ w. w == s.number) space.waiting
 
 abbrev pub grave_if : Bool → Seen → Option Grave
 grave_if true s = grave_by s.fact.state s
@@ -98,6 +95,6 @@ grave_kept test space page = option_and_then (λ s. grave_if (test s) s) (object
 pub record TraceAgrees (trace : List Label) (k : KernelState) : Type 0 where
   pub granted : (pid page : ℕ) (p : Process) → process_at k pid ≡ Some p → shadow_at trace pid page ≡ shadow_kept p.space page
   pub dead : (pid page : ℕ) (p : Process) → process_at k pid ≡ Some p → p.status ≡ None
-      → dead_at trace pid page ≡ grave_kept (λ s. not (is_waiting p.space s)) p.space page
+      → dead_at trace pid page ≡ grave_kept (λ s. not (is_waiting p.space s.number)) p.space page
   pub waiting : (pid page : ℕ) (p : Process) → process_at k pid ≡ Some p → p.status ≡ None
-      → waiting_at trace pid page ≡ grave_kept (is_waiting p.space) p.space page
+      → waiting_at trace pid page ≡ grave_kept (λ s. is_waiting p.space s.number) p.space page

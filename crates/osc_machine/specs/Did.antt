@@ -1,6 +1,6 @@
 -- What a step is, row by row: it stays, or the hart's action is done on the one thing that it names and the
 -- hart is told; and what the hart makes of it. Each constructor has the equations of its row.
-use Rattle.std.specs.Prelude.{ℕ, ◌+◌, ◌==◌, ◌≡◌, Bool, true, false, Option, Some, None, List, [], ◌∷◌, slice_get, slice_set}
+use Rattle.std.specs.Prelude.{ℕ, ◌+◌, ◌==◌, ◌≡◌, true, false, Option, Some, None, List, slice_get, slice_set}
 use Rattle.osc_word.specs.declared.calls.Request.{Request}
 use Rattle.osc_word.specs.declared.job_list.WordAt.{WordAt}
 use Rattle.osc_sv39.specs.Walk.{word_at, put_word}
@@ -8,21 +8,36 @@ use Rattle.osc_paging.specs.Boxes.{BoxState}
 use Rattle.osc_guest.specs.declared.places.Ask.TheVariants as guest
 use Rattle.osc_guest.specs.Asks.{ask}
 use Rattle.osc_guest.specs.Told.{Told, told}
+use Rattle.osc_guest.specs.Told as heard
 use Rattle.osc_calls.specs.Kernel.{KernelState}
 use Rattle.osc_calls.specs.Moves.{Move}
 use Rattle.osc_calls.specs.Plan.{plan}
 use Rattle.osc_calls.specs.JobDone.{job_done}
 use Rattle.osc_machine.specs.declared.HartAsk.{HartAsk}
 use Rattle.osc_machine.specs.declared.HartAsk.TheVariants as does
-use Rattle.osc_machine.specs.Parts.{Gate, CallPlace, Outside, TakingBoxes, FirstWord, SecondWord, Working, GivingBoxes, Returning, Return, HartState, State}
-use Rattle.osc_machine.specs.Turns.{HartTold, Box, Kernel, Word, Gate as ToldGate, OldVersion, Done, Turn, quietly, hart_ask, hart_told, handed_box, handed_kernel, box_given, from_guest, place_on, kernel_taken, in_call, as_before, found_words, Progress, StillAt, AllDone, progress_of, clears_by, box_gone, kernel_gone}
+use Rattle.osc_machine.specs.Parts.{Gate, Outside, TakingBoxes, FirstWord, SecondWord, Working, GivingBoxes, Returning, Return, HartState, State}
+use Rattle.osc_machine.specs.Turns.{HartTold, Box, Kernel, Word, Gate as ToldGate, OldVersion, Done, Turn, quietly, hart_ask, hart_told, handed_box, handed_kernel, box_given, from_guest, place_on, kernel_taken, in_call, as_before, found_words, StillAt, AllDone, moves_left, clears_by, box_gone, kernel_gone}
 use Rattle.osc_machine.specs.Step.{Stepped, step, stays, tells, box_at, with_box, is_shut, is_wanted, with_gate}
 
 -- ---- the hart
+-- what the guest part hears of an answer; it never hears of the kernel
+abbrev pub guest_hears : HartTold → Option Told
+guest_hears (Box box) = Some (heard.Box box)
+guest_hears (Word word) = Some (heard.Word word)
+guest_hears (ToldGate version) = Some (heard.Gate version)
+guest_hears OldVersion = Some heard.OldVersion
+guest_hears Done = Some heard.Done
+guest_hears _ = None
+
+-- the word that an answer brings, 0 where it brings none
+abbrev pub word_told : HartTold → ℕ
+word_told (Word word) = word
+word_told _ = 0
+
 -- what a hart makes of an answer
 pub data Turned (h : HartState) (t : HartTold) (turn : Turn) : Type 0 where
   Unmoved : turn ≡ quietly h → Turned h t turn
-  InGuest : (said : Told) → h.place ≡ Outside → turn ≡ from_guest h (told h.user said) → Turned h t turn
+  InGuest : (said : Told) → h.place ≡ Outside → guest_hears t ≡ Some said → turn ≡ from_guest h (told h.user said) → Turned h t turn
   TakesKernel : (k : KernelState) (asked : Request) → h.place ≡ Outside → t ≡ Kernel k → ask h.user ≡ guest.Kernel asked
       → turn ≡ kernel_taken (guest.Kernel asked) k h → Turned h t turn
   TakesBox : (box : ℕ) (state : BoxState) (k : KernelState) → h.place ≡ TakingBoxes box → h.kernel ≡ Some k → t ≡ Box state
@@ -32,7 +47,7 @@ pub data Turned (h : HartState) (t : HartTold) (turn : Turn) : Type 0 where
   TakesLastBox : (box : ℕ) (state : BoxState) (k : KernelState) → h.place ≡ TakingBoxes box → h.kernel ≡ Some k → t ≡ Box state
       → (box + 1 == h.count) ≡ true
       → turn ≡ in_call true (plan (found_words 0 0) k) (place_on (plan (found_words 0 0) k).kernel (slice_set h.boxes box (Some state)))
-          (record h { boxes = slice_set h.boxes box (Some state) })
+      (record h { boxes = slice_set h.boxes box (Some state) })
       → Turned h t turn
   FindsFirst : (first second : WordAt) (word : ℕ) (k : KernelState) → h.place ≡ FirstWord first second → h.kernel ≡ Some k → t ≡ Word word
       → turn ≡ quietly (record h { place = SecondWord word second }) → Turned h t turn
@@ -40,11 +55,11 @@ pub data Turned (h : HartState) (t : HartTold) (turn : Turn) : Type 0 where
       → turn ≡ in_call true (plan (found_words found word) k) (place_on (plan (found_words found word) k).kernel h.boxes) h
       → Turned h t turn
   Works : (moves left : List Move) (read now : Option ℕ) (word : ℕ) (k : KernelState) → h.place ≡ Working moves read → h.kernel ≡ Some k
-      → progress_of moves read word ≡ StillAt left now
+      → word ≡ word_told t → moves_left moves read word ≡ StillAt left now
       → turn ≡ in_call false (as_before k) (Working left now) (record h { clears = clears_by moves k h.clears })
       → Turned h t turn
   EndsJob : (moves : List Move) (read : Option ℕ) (word : ℕ) (k : KernelState) → h.place ≡ Working moves read → h.kernel ≡ Some k
-      → progress_of moves read word ≡ AllDone
+      → word ≡ word_told t → moves_left moves read word ≡ AllDone
       → turn ≡ in_call false (job_done word k) (place_on (job_done word k).kernel h.boxes) (record h { clears = clears_by moves k h.clears })
       → Turned h t turn
   GivesBox : (box : ℕ) (k : KernelState) → h.place ≡ GivingBoxes box → h.kernel ≡ Some k → t ≡ Done → turn ≡ box_gone box k h

@@ -35,7 +35,7 @@ use Rattle.osc_calls.specs.JobDone.{job_done}
 use Rattle.osc_calls.specs.Finish.{finish}
 use Rattle.osc_machine.specs.declared.HartAsk.{HartAsk}
 use Rattle.osc_machine.specs.declared.HartAsk.TheVariants as does
-use Rattle.osc_machine.specs.Parts.{Gate, CallPlace, Outside, TakingBoxes, FirstWord, SecondWord, Working, GivingBoxes, Returning, HartState, State}
+use Rattle.osc_machine.specs.Parts.{Gate, CallPlace, Outside, Working, GivingBoxes, Returning, HartState, State}
 use Rattle.osc_machine.specs.Turns.{Busy, Done, quietly, hart_ask, hart_told, touched}
 use Rattle.osc_machine.specs.Step.{stays, box_at, is_shut, step}
 use Rattle.osc_machine.specs.Run.{Ran, run_on, run, at, until_over}

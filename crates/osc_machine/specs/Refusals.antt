@@ -28,7 +28,7 @@ use Rattle.osc_calls.specs.Kernel.{KernelState, idle_hart}
 use Rattle.osc_machine.specs.Parts.{State}
 use Rattle.osc_machine.specs.Run.{at}
 use Rattle.osc_machine.specs.Views.{kernel_of, journal_of}
-use Rattle.osc_machine.specs.Replay.{Region, Ledger, ledger_at, block_for, replay}
+use Rattle.osc_machine.specs.Replay.{Region, Ledger, ledger_at, fresh_block, replay}
 
 -- what does not change in a run: the settings, and the pages of the image
 pub record Setting : Type 0 where
@@ -89,12 +89,12 @@ no_frames s ledgers l frames first count = reason (nat_lt (unused s ledgers) (fr
 
 -- a block of a room, with so many new frames: under the heap with shadows fresh shadow pages are mapped,
 -- under the plain one its own pages where a frame is taken
-abbrev pub block_reasons : HeapKind → Setting → List Ledger → Ledger → Room → ℕ → List Reason
-block_reasons Oscar s ledgers l room frames =
+abbrev pub room_reasons : HeapKind → Setting → List Ledger → Ledger → Room → ℕ → List Reason
+room_reasons Oscar s ledgers l room frames =
     reason (nat_lt s.config.shadows (mark l.objects + shadow_pages room)) NoShadow
     ∷ no_frames s ledgers l frames (next_page l.objects) (shadow_pages room) ∷ []
-block_reasons Plain s ledgers l room frames =
-    no_frames s ledgers l frames ((block_for s.config room l).start / 4096) frames ∷ []
+room_reasons Plain s ledgers l room frames =
+    no_frames s ledgers l frames ((fresh_block s.config room l).start / 4096) frames ∷ []
 
 -- the block that a pointer names
 abbrev pub old_block : HeapKind → Ledger → ℕ → Option Block
@@ -109,9 +109,9 @@ block_frames_from s l room (Some old) = if is_room room old.room then 0 else nee
 -- `idle` says whether a hart is idle
 abbrev pub reasons : Setting → List Ledger → Bool → Ledger → Call → List Reason
 reasons s ledgers idle l (Malloc size) =
-    block_reasons s.config.heap s ledgers l (room_of size) (block_frames_from s l (room_of size) None)
+    room_reasons s.config.heap s ledgers l (room_of size) (block_frames_from s l (room_of size) None)
 reasons s ledgers idle l (Realloc pointer size) =
-    block_reasons s.config.heap s ledgers l (room_of size)
+    room_reasons s.config.heap s ledgers l (room_of size)
     (block_frames_from s l (room_of size) (old_block s.config.heap l pointer))
 reasons s ledgers idle l Fork =
     reason (not idle) NoHart
@@ -124,8 +124,8 @@ reasons s ledgers idle l (Share pages) =
 reasons s ledgers idle l _ = []
 
 -- why a call of a process is refused after a journal; None where it is not
-unfoldable pub refusal : Setting → List Entry → Bool → ℕ → Call → Option Answer
-refusal s journal idle pid call =
+unfoldable pub refusal_told : Setting → List Entry → Bool → ℕ → Call → Option Answer
+refusal_told s journal idle pid call =
     let ledgers = replay s.config journal in first_reason (reasons s ledgers idle (ledger_at ledgers pid) call)
 
 -- ---- the rule
@@ -135,26 +135,26 @@ faults (Realloc pointer size) answer = is_heap_fault answer
 faults _ answer = false
 
 -- what a call that may be refused answers where it is not
-abbrev pub gives : Call → Answer → Bool
-gives (Malloc size) (Given object pointer) = true
-gives (Malloc size) (Placed pointer) = true
-gives (Malloc size) _ = false
-gives (Realloc pointer size) (Given object new) = true
-gives (Realloc pointer size) (Moved old object new) = true
-gives (Realloc pointer size) (Placed new) = true
-gives (Realloc pointer size) _ = false
-gives Fork (Number child) = true
-gives Fork _ = false
-gives (Spawn pc sp arg) (Number thread) = true
-gives (Spawn pc sp arg) _ = false
-gives (Share pages) (Number address) = true
-gives (Share pages) _ = false
-gives _ _ = true
+abbrev pub grants_call : Call → Answer → Bool
+grants_call (Malloc size) (Given object pointer) = true
+grants_call (Malloc size) (Placed pointer) = true
+grants_call (Malloc size) _ = false
+grants_call (Realloc pointer size) (Given object new) = true
+grants_call (Realloc pointer size) (Moved old object new) = true
+grants_call (Realloc pointer size) (Placed new) = true
+grants_call (Realloc pointer size) _ = false
+grants_call Fork (Number child) = true
+grants_call Fork _ = false
+grants_call (Spawn pc sp arg) (Number thread) = true
+grants_call (Spawn pc sp arg) _ = false
+grants_call (Share pages) (Number address) = true
+grants_call (Share pages) _ = false
+grants_call _ _ = true
 
--- what a call answered is a refusal, this one, or gives
-abbrev pub Answers : Option Answer → Call → Answer → Type 0
-Answers (Some refused) call answer = answer ≡ refused
-Answers None call answer = (is_want answer ≡ false) × (gives call answer ≡ true)
+-- what a call answered is this refusal; or where there is none the call gives
+abbrev pub IsAnswered : Option Answer → Call → Answer → Type 0
+IsAnswered (Some refused) call answer = answer ≡ refused
+IsAnswered None call answer = (is_want answer ≡ false) × (grants_call call answer ≡ true)
 
 -- each step of a run that enters a call in the journal answers as the rule says, by the journal and the
 -- records of harts before it
@@ -162,4 +162,4 @@ abbrev pub RefusesByRule : Setting → State → List ℕ → Type 0
 RefusesByRule s start picks =
     (i : ℕ) (k : KernelState) (entry : Entry) → kernel_of (at start picks i).state ≡ Some k
     → journal_of (at start picks (i + 1)).state ≡ k.journal ++ entry ∷ [] → faults entry.call entry.answer ≡ false
-    → Answers (refusal s k.journal (is_some (idle_hart k.records)) entry.pid entry.call) entry.call entry.answer
+    → IsAnswered (refusal_told s k.journal (is_some (idle_hart k.records)) entry.pid entry.call) entry.call entry.answer

@@ -42,8 +42,8 @@ first_ledger = record { objects = []; waiting = []; held = []; regions = []; can
 
 -- ---- blocks
 -- the next block of a room
-abbrev pub block_for : Config → Room → Ledger → Block
-block_for config room l = next_block (record { frames = config.frames; held = l.held; pages = [] }) room
+abbrev pub fresh_block : Config → Room → Ledger → Block
+fresh_block config room l = next_block (record { frames = config.frames; held = l.held; pages = [] }) room
 
 abbrev pub holds : Block → Ledger → Ledger
 holds block l = record l { held = with_block block l.held }
@@ -68,8 +68,8 @@ abbrev pub lets_go : Ledger → Ledger
 lets_go l = record (drops (map block_of (facts l.objects l.waiting)) l) { waiting = [] }
 
 -- an object is freed: it waits until as many wait as the batch has
-abbrev pub frees : Config → ℕ → ℕ → Ledger → Ledger
-frees config object call l =
+abbrev pub lets_wait : Config → ℕ → ℕ → Ledger → Ledger
+lets_wait config object call l =
     let freed = record (loses object call l) { waiting = with_waiting l.waiting object } in
     if length freed.waiting == config.batch then lets_go freed else freed
 
@@ -79,7 +79,7 @@ abbrev pub replaces : Config → ℕ → ℕ → Option ObjectFact → ℕ → L
 replaces config old call None size l = l
 replaces config old call (Some o) size l =
     if is_room (room_of size) (room_of o.size) then has_object size (block_of o) (lets_go (loses old call l))
-    else drops (block_of o ∷ []) (lets_go (gains size (block_for config (room_of size) l) (loses old call l)))
+    else drops (block_of o ∷ []) (lets_go (gains size (fresh_block config (room_of size) l) (loses old call l)))
 
 -- ---- the plain heap
 abbrev pub block_pages : Block → List ℕ
@@ -108,13 +108,13 @@ loses_thread l = if nat_le l.threads 1 then ends l else record l { threads = l.t
 -- what a call with this answer makes of its process; `call` is its place in the journal. All other
 -- calls and answers change nothing.
 abbrev pub told_by : Config → ℕ → Call → Answer → Ledger → Ledger
-told_by config call (Malloc size) (Given object pointer) l = gains size (block_for config (room_of size) l) l
-told_by config call (Malloc size) (Placed pointer) l = places (block_for config (room_of size) l) l
-told_by config call (Free pointer) (Freed object) l = frees config object call l
+told_by config call (Malloc size) (Given object pointer) l = gains size (fresh_block config (room_of size) l) l
+told_by config call (Malloc size) (Placed pointer) l = places (fresh_block config (room_of size) l) l
+told_by config call (Free pointer) (Freed object) l = lets_wait config object call l
 told_by config call (Free pointer) Nothing l = unplaces pointer l
-told_by config call (Realloc pointer size) (Given object new) l = gains size (block_for config (room_of size) l) l
+told_by config call (Realloc pointer size) (Given object new) l = gains size (fresh_block config (room_of size) l) l
 told_by config call (Realloc pointer size) (Moved old object new) l = replaces config old call (fact l.objects old) size l
-told_by config call (Realloc pointer size) (Placed new) l = places_anew pointer new (block_for config (room_of size) l) l
+told_by config call (Realloc pointer size) (Placed new) l = places_anew pointer new (fresh_block config (room_of size) l) l
 told_by config call (Share pages) (Number address) l = record l { regions = (record { call = call; pages = pages }) ∷ l.regions }
 told_by config call (Spawn pc sp arg) (Number thread) l = record l { threads = l.threads + 1; spawned = l.spawned + 1 }
 told_by config call (Done value) Ended l = loses_thread l

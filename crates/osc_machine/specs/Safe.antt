@@ -2,7 +2,7 @@
 -- waits does so too or stays in its object's block, a report of such an access tells whose page it was and
 -- which call ended it, and no page is granted twice. A moment of a run is the number of picks done. This
 -- project's own.
-use Rattle.std.specs.Prelude.{ℕ, ◌+◌, ◌-◌, ◌/◌, ◌%◌, ◌≡◌, ◌≢◌, ◌<◌, ◌≤◌, ◌⊎◌, Bool, true, false, Option, Some, None, List, [], ◌∷◌, ◌++◌, length, slice_get, take, IsSome, option_map, pos, ◌-ℤ◌}
+use Rattle.std.specs.Prelude.{ℕ, ◌+◌, ◌-◌, ◌/◌, ◌%◌, ◌≡◌, ◌≤◌, ◌⊎◌, Bool, true, false, Option, Some, None, List, [], ◌∷◌, ◌++◌, length, slice_get, take, IsSome, option_map, pos, ◌-ℤ◌}
 use Rattle.std.specs.List.{Contains}
 use Rattle.std.specs.Option.{option_map_or, option_and_then}
 use Rattle.osc_word.specs.declared.steps.Access.{Access}
@@ -27,7 +27,7 @@ use Rattle.osc_machine.specs.declared.HartAsk.{HartAsk}
 use Rattle.osc_machine.specs.declared.HartAsk.TheVariants.{Load, Store, OpenGate}
 use Rattle.osc_machine.specs.Parts.{HartState, State}
 use Rattle.osc_machine.specs.Turns.{hart_ask}
-use Rattle.osc_machine.specs.Step.{Stepped, stays, step}
+use Rattle.osc_machine.specs.Step.{step}
 use Rattle.osc_machine.specs.Run.{at, run}
 use Rattle.osc_machine.specs.Views.{kernel_of, output_of, reports_of, journal_of}
 use Rattle.osc_machine.specs.DeadPages.{Shadow, Grave, Past, past_after, shadow, grave_in, is_page_of, shadow_at, dead_at, waiting_at}
@@ -58,13 +58,13 @@ HoldsKernel start picks hart from to =
     (i : ℕ) → from ≤ i → i ≤ to → IsSome (option_and_then (λ (h : HartState). h.kernel) (hart_at start picks hart i))
 
 -- an action that stores a word or opens a gate
-abbrev pub stores : HartAsk → Bool
-stores (Store at value) = true
-stores (OpenGate frame version) = true
-stores _ = false
+abbrev pub is_store : HartAsk → Bool
+is_store (Store at value) = true
+is_store (OpenGate frame version) = true
+is_store _ = false
 
 abbrev pub hart_stores : Option HartState → Bool
-hart_stores hart = option_map_or (λ h. stores (hart_ask h)) hart false
+hart_stores hart = option_map_or (λ h. is_store (hart_ask h)) hart false
 
 abbrev pub registers : Option HartState → List ℕ
 registers hart = option_map_or (λ (h : HartState). h.user.regs) hart []
@@ -75,7 +75,7 @@ pc hart = option_map_or (λ (h : HartState). h.user.pc) hart 0
 -- from one moment to another, and in the step after it, a hart stores nothing, and keeps its registers and
 -- its pc
 pub record ChangesNothing (start : State) (picks : List ℕ) (hart from to : ℕ) : Type 0 where
-  pub quiet : (i : ℕ) → from ≤ i → i ≤ to → hart_stores (hart_at start picks hart i) ≡ false
+  pub no_store : (i : ℕ) → from ≤ i → i ≤ to → hart_stores (hart_at start picks hart i) ≡ false
   pub keeps_registers : registers (hart_at start picks hart from) ≡ registers (hart_at start picks hart (to + 1))
   pub keeps_pc : pc (hart_at start picks hart from) ≡ pc (hart_at start picks hart (to + 1))
 
@@ -111,10 +111,10 @@ RefusesWrite start picks i hart =
 
 -- ---- blocks of objects
 -- the word that an action loads or stores
-abbrev pub word_of : HartAsk → Option WordAt
-word_of (Load at) = Some at
-word_of (Store at value) = Some at
-word_of _ = None
+abbrev pub word_reached : HartAsk → Option WordAt
+word_reached (Load at) = Some at
+word_reached (Store at value) = Some at
+word_reached _ = None
 
 abbrev pub space_of : State → ℕ → Option Space
 space_of s pid = option_map (λ (p : Process). p.space) (option_and_then (λ k. process_at k pid) (kernel_of s))
@@ -137,7 +137,7 @@ pub record LiesInBlock (s : State) (pid address object : ℕ) (word : WordAt) : 
 -- the action of a hart after this moment reaches such a word
 abbrev pub ReachesBlock : State → List ℕ → ℕ → ℕ → ℕ → ℕ → ℕ → Type 0
 ReachesBlock start picks i hart pid address object =
-    (word : WordAt) × (option_and_then (λ h. word_of (hart_ask h)) (hart_at start picks hart i) ≡ Some word)
+    (word : WordAt) × (option_and_then (λ h. word_reached (hart_ask h)) (hart_at start picks hart i) ≡ Some word)
     × LiesInBlock (state_at start picks i) pid address object word
 
 -- ---- reports
@@ -174,7 +174,7 @@ pub record Safe (start : State) (picks : List ℕ) : Type 0 where
   pub reported : (i cause address : ℕ) (report : Report) (grave : Grave) → Reports start picks i report
       → report.fault ≡ fault.Access cause address
       → (dead_at (trace_at start picks i) report.pid (address / 4096) ≡ Some grave)
-          ⊎ (waiting_at (trace_at start picks i) report.pid (address / 4096) ≡ Some grave)
+      ⊎ (waiting_at (trace_at start picks i) report.pid (address / 4096) ≡ Some grave)
       → NamesGrave (state_at start picks (i + 1)) report address grave
   -- the labels before a grant grant none of its pages
   pub fresh : (place page : ℕ) (label : Label) (grant : Grant) → slice_get (run start picks).trace place ≡ Some label
@@ -182,4 +182,4 @@ pub record Safe (start : State) (picks : List ℕ) : Type 0 where
       → shadow_at (take place (run start picks).trace) grant.pid page ≡ None
   pub waits : (i : ℕ) (t : TouchesWaiting start picks i)
       → ((t.done ≡ false) × InstructionChangesNothing start picks t.hart i)
-          ⊎ ReachesBlock start picks i t.hart t.pid t.address t.grave.shadow.object
+      ⊎ ReachesBlock start picks i t.hart t.pid t.address t.grave.shadow.object

@@ -13,7 +13,7 @@ use Rattle.osc_guest.specs.User.{Answered, handed, risen}
 use Rattle.osc_guest.specs.declared.places.Ask.{Ask}
 use Rattle.osc_guest.specs.declared.places.Ask.TheVariants as guest
 use Rattle.osc_guest.specs.Asks.{ask}
-use Rattle.osc_guest.specs.Told.{Told, told}
+use Rattle.osc_guest.specs.Told.{told}
 use Rattle.osc_guest.specs.Told as heard
 use Rattle.osc_space.specs.Header.{Found}
 use Rattle.osc_calls.specs.declared.Begun.{Begun}
@@ -107,9 +107,6 @@ from_guest h a = record {
   shows = option_to_list (option_map (touched h.number) a.touch);
 }
 
-abbrev pub guest_told : HartState → Told → Turn
-guest_told h t = from_guest h (told h.user t)
-
 -- ---- where a call goes on
 abbrev pub return_of : Bool → KernelState → Return
 return_of full k = record { resume = (finish k).resume; shows = (finish k).shows; full = full }
@@ -173,26 +170,26 @@ abbrev pub words_found : ℕ → ℕ → KernelState → HartState → Turn
 words_found first second k h = let s = plan (found_words first second) k in in_call true s (place_on s.kernel h.boxes) h
 
 -- what is left of a job: moves, of which the first may have read its word, or nothing
-pub data Progress : Type 0 where
-  StillAt : List Move → Option ℕ → Progress
-  AllDone : Progress
+pub data MovesLeft : Type 0 where
+  StillAt : List Move → Option ℕ → MovesLeft
+  AllDone : MovesLeft
 
-abbrev pub rest_of : List Move → Progress
+abbrev pub rest_of : List Move → MovesLeft
 rest_of [] = AllDone
 rest_of (move ∷ moves) = StillAt (move ∷ moves) None
 
 -- once an action of the first move is done; `word` is what a load gave
-abbrev pub progress_of : List Move → Option ℕ → ℕ → Progress
-progress_of (move.Copy from to ∷ moves) None word = StillAt (move.Copy from to ∷ moves) (Some word)
-progress_of (move.CopyLow from to bytes ∷ moves) None word = StillAt (move.CopyLow from to bytes ∷ moves) (Some word)
-progress_of (move ∷ moves) read word = rest_of moves
-progress_of [] read word = AllDone
+abbrev pub moves_left : List Move → Option ℕ → ℕ → MovesLeft
+moves_left (move.Copy from to ∷ moves) None word = StillAt (move.Copy from to ∷ moves) (Some word)
+moves_left (move.CopyLow from to bytes ∷ moves) None word = StillAt (move.CopyLow from to bytes ∷ moves) (Some word)
+moves_left (move ∷ moves) read word = rest_of moves
+moves_left [] read word = AllDone
 
-abbrev pub kernel_after : Progress → ℕ → KernelState → Shown
+abbrev pub kernel_after : MovesLeft → ℕ → KernelState → Shown
 kernel_after (StillAt moves read) word k = as_before k
 kernel_after AllDone word k = job_done word k
 
-abbrev pub place_after : Progress → KernelState → List (Option BoxState) → CallPlace
+abbrev pub place_after : MovesLeft → KernelState → List (Option BoxState) → CallPlace
 place_after (StillAt moves read) k boxes = Working moves read
 place_after AllDone k boxes = place_on k boxes
 
@@ -209,7 +206,7 @@ clears_by _ k clears = clears
 -- an action of the job under way is done
 abbrev pub action_done : List Move → Option ℕ → ℕ → KernelState → HartState → Turn
 action_done moves read word k h =
-    let p = progress_of moves read word in
+    let p = moves_left moves read word in
     let s = kernel_after p word k in
     in_call false s (place_after p s.kernel h.boxes) (record h { clears = clears_by moves k h.clears })
 
@@ -230,13 +227,13 @@ kernel_gone return h = record {
 -- ---- the answers
 -- outside a call
 abbrev pub outside_told : HartState → HartTold → Turn
-outside_told h (Box box) = guest_told h (heard.Box box)
+outside_told h (Box box) = from_guest h (told h.user (heard.Box box))
 outside_told h (Kernel k) = kernel_taken (ask h.user) k h
-outside_told h (Word word) = guest_told h (heard.Word word)
-outside_told h (Gate version) = guest_told h (heard.Gate version)
+outside_told h (Word word) = from_guest h (told h.user (heard.Word word))
+outside_told h (Gate version) = from_guest h (told h.user (heard.Gate version))
 outside_told h Busy = quietly h
-outside_told h OldVersion = guest_told h heard.OldVersion
-outside_told h Done = guest_told h heard.Done
+outside_told h OldVersion = from_guest h (told h.user heard.OldVersion)
+outside_told h Done = from_guest h (told h.user heard.Done)
 
 -- at a place, with this kernel in hand; the giving of the kernel doesn't look at it
 abbrev pub place_told : CallPlace → Option KernelState → HartState → HartTold → Turn

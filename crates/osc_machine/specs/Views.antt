@@ -1,6 +1,6 @@
 -- What a state shows of its run: the kernel, wherever it is, and with it the output, the reports, the
 -- journal and how process 0 ended; and the numbers of the summary. This project's own.
-use Rattle.std.specs.Prelude.{ℕ, ◌+◌, ◌-◌, ◌^◌, min, Bool, true, false, ◌==◌, if◌then◌else◌, Option, Some, None, List, [], ◌∷◌, length, sum_by, option_map}
+use Rattle.std.specs.Prelude.{ℕ, ◌+◌, ◌-◌, ◌^◌, min, Bool, false, ◌==◌, if◌then◌else◌, Option, None, List, [], ◌∷◌, length, sum_by, option_map}
 use Rattle.std.specs.Option.{option_map_or, option_or, option_and_then}
 use Rattle.osc_word.specs.declared.calls.Entry.{Entry}
 use Rattle.osc_word.specs.Environment.{fault_status}

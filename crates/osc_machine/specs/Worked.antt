@@ -31,7 +31,7 @@ use Rattle.osc_machine.specs.Start.{started}
 use Rattle.osc_machine.specs.Views.{machine_over, status_of, counts_of}
 use Rattle.osc_machine.specs.DeadPages.{Grave, shadow, dead_at, waiting_at, shadow_at}
 use Rattle.osc_machine.specs.Replay.{Ledger, first_ledger, replay}
-use Rattle.osc_machine.specs.Refusals.{Setting, given_up, reasons, refusal, used}
+use Rattle.osc_machine.specs.Refusals.{Setting, given_up, reasons, refusal_told, used}
 use Rattle.osc_machine.specs.Due.{ended_line, summary_line}
 
 -- ---- printed lines
@@ -199,7 +199,7 @@ setting frames shadows = record { config = config_of frames shadows; image = 0x1
 
 -- why a call of process 0 is refused after a journal, where a hart is idle
 abbrev pub refused_after : Setting → List Entry → Call → Option Answer
-refused_after s journal asked = refusal s journal true 0 asked
+refused_after s journal asked = refusal_told s journal true 0 asked
 
 abbrev pub used_after : Setting → List Entry → ℕ
 used_after s journal = used s (replay s.config journal)

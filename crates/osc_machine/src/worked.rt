@@ -45,7 +45,7 @@ pub fn batches_replayed()
 {}
 
 /// Calls are refused for want of shadow pages, and for want of frames.
-#[tactic(auto, unfolding(crate::specs::Replay::noted_from, crate::specs::Refusals::used, crate::specs::Refusals::refusal, osc_image::specs::Frames::tables_below, osc_space::specs::Used::frames_used, osc_class::specs::Rooms::room_of, osc_slot::specs::Least::least, osc_slot::specs::Least::any, osc_slot::specs::Least::passing, osc_slot::specs::Slots::beside, osc_slot::specs::Slots::empty_page, osc_slot::specs::Slots::block_frames, osc_slot::specs::Ordered::insert_by, osc_slot::specs::Heap::back))]
+#[tactic(auto, unfolding(crate::specs::Replay::noted_from, crate::specs::Refusals::used, crate::specs::Refusals::refusal_told, osc_image::specs::Frames::tables_below, osc_space::specs::Used::frames_used, osc_class::specs::Rooms::room_of, osc_slot::specs::Least::least, osc_slot::specs::Least::any, osc_slot::specs::Least::passing, osc_slot::specs::Slots::beside, osc_slot::specs::Slots::empty_page, osc_slot::specs::Slots::block_frames, osc_slot::specs::Ordered::insert_by, osc_slot::specs::Heap::back))]
 pub fn wants_refused()
     ensures shadows { ShadowsWanted }
     ensures frames { FramesWanted }
