@@ -88,17 +88,17 @@ pub known-more : (n m : ℕ) (v : Value) → n ≤ m → is_known n v ≡ true �
 known-more n m (Num a) l e = refl
 known-more n m (Ptr o k) l e = granted-more n m o k l e
 
-byte-more : (n m : ℕ) (b : Byte) → n ≤ m → is_known_byte n b ≡ true → is_known_byte m b ≡ true
+pub byte-more : (n m : ℕ) (b : Byte) → n ≤ m → is_known_byte n b ≡ true → is_known_byte m b ≡ true
 byte-more n m (Number a) l e = refl
 byte-more n m (Part o k i) l e = granted-more n m o k l e
 
-bytes-more : (n m : ℕ) (bytes : List Byte) → n ≤ m → list_all (is_known_byte n) bytes ≡ true → list_all (is_known_byte m) bytes ≡ true
+pub bytes-more : (n m : ℕ) (bytes : List Byte) → n ≤ m → list_all (is_known_byte n) bytes ≡ true → list_all (is_known_byte m) bytes ≡ true
 bytes-more n m bytes l = all-more (is_known_byte n) (is_known_byte m) bytes (λ b. byte-more n m b l)
 
-page-more : (n m : ℕ) (page : Page) → n ≤ m → knows_page n page ≡ true → knows_page m page ≡ true
+pub page-more : (n m : ℕ) (page : Page) → n ≤ m → knows_page n page ≡ true → knows_page m page ≡ true
 page-more n m page l = bytes-more n m page.bytes l
 
-object-more : (n m : ℕ) (object : Object) → n ≤ m → knows_object n object ≡ true → knows_object m object ≡ true
+pub object-more : (n m : ℕ) (object : Object) → n ≤ m → knows_object n object ≡ true → knows_object m object ≡ true
 object-more n m (Live bytes) l e = bytes-more n m bytes l e
 object-more n m (Dead size) l e = refl
 

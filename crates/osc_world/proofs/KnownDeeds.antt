@@ -77,10 +77,10 @@ begins-knows world number hart k h s = record {
   spawned = all-set (is_spawned world.threads) world.harts number hart k.spawned s;
 }
 
-own-count : (turn : WorldTurn) → InTurn turn → objects_by turn.state.processes (Some turn.pid) ≡ length turn.process.memory.objects
+pub own-count : (turn : WorldTurn) → InTurn turn → objects_by turn.state.processes (Some turn.pid) ≡ length turn.process.memory.objects
 own-count turn i = rw i.process refl
 
-regs-known : (turn : WorldTurn) → InTurn turn → Knows turn.state → list_all (is_known (length turn.process.memory.objects)) turn.hart.regs ≡ true
+pub regs-known : (turn : WorldTurn) → InTurn turn → Knows turn.state → list_all (is_known (length turn.process.memory.objects)) turn.hart.regs ≡ true
 regs-known turn i k =
     let all : list_all (is_known (objects_by turn.state.processes turn.hart.process)) turn.hart.regs ≡ true = all-at (knows_hart turn.state.processes) turn.state.harts turn.number turn.hart k.harts i.hart in
     let same : objects_by turn.state.processes turn.hart.process ≡ length turn.process.memory.objects = ap (objects_by turn.state.processes) i.runs ∙ own-count turn i in
@@ -113,7 +113,7 @@ process-knows turn process i k m l =
       spawned = k.spawned;
     }
 
-own-memory : (turn : WorldTurn) → InTurn turn → Knows turn.state → knows_memory turn.process.memory ≡ true
+pub own-memory : (turn : WorldTurn) → InTurn turn → Knows turn.state → knows_memory turn.process.memory ≡ true
 own-memory turn i k = all-at (λ (x : Process Memory). knows_memory x.memory) turn.state.processes turn.pid turn.process k.memories i.process
 
 -- ---- deeds

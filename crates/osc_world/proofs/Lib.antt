@@ -9,3 +9,4 @@ pub mod Output
 pub mod Growth
 pub mod Known
 pub mod KnownDeeds
+pub mod KnownOffers
