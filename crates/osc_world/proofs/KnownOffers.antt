@@ -1,7 +1,7 @@
 -- Each pointer names a granted object: what instructions and calls decide.
-use Rattle.std.proofs.Common.{◌≡◌, ◌≢◌, ℕ, ◌≤◌, ◌<◌, ◌+◌, ◌-◌, ◌*◌, ◌%◌, ◌==◌, Bool, true, false, not, cond, ◌&&◌, List, [], ◌∷◌, ◌++◌, length, length-append, Option, Some, None, option_map, Result, Ok, Err, refl, arith, slice_get, zero, suc, map, sym, ap, subst, ◌∙◌, replicate, take, drop}
+use Rattle.std.proofs.Common.{◌≡◌, ℕ, ◌≤◌, ◌+◌, ◌-◌, ◌*◌, ◌%◌, ◌==◌, Bool, true, false, cond, List, [], ◌∷◌, ◌++◌, length, length-append, Option, Some, None, option_map, Result, Ok, Err, refl, arith, slice_get, map, ap, subst, ◌∙◌, take, drop}
 use Rattle.std.proofs.lemmas.Bool.Decides.{nat_tests}
-use Rattle.std.specs.Prelude.{slice_set, find, unwrap_or, ok_or, nat_lt, nat_le, bit_and}
+use Rattle.std.specs.Prelude.{find, unwrap_or, ok_or, nat_lt}
 use Rattle.std.specs.List.{list_all}
 use Rattle.byteorder.specs.Endian.{little_bytes}
 use Rattle.osc_word.specs.declared.calls.Call.{Call}
@@ -23,7 +23,7 @@ use Rattle.osc_rv.specs.declared.instr.Width.{Width}
 use Rattle.osc_rv.specs.declared.instr.Width.TheVariants.{W, D}
 use Rattle.osc_isa.specs.Numbers.{wrapped, extended}
 use Rattle.osc_isa.specs.Integer.{next, load_width, store_width, op_of_shift, op_of_shift_w, without_bit_0}
-use Rattle.osc_isa.specs.Atomic.{width_of, sc_success, sc_failure}
+use Rattle.osc_isa.specs.Atomic.{width_of, sc_failure}
 use Rattle.osc_world.specs.declared.Value.{Value}
 use Rattle.osc_world.specs.declared.Value.TheVariants.{Num, Ptr}
 use Rattle.osc_world.specs.declared.Byte.{Byte}
@@ -33,21 +33,21 @@ use Rattle.osc_world.specs.declared.ObjectWhy.TheVariants.{Trap, PointerUse, Poi
 use Rattle.osc_world.specs.declared.Area.{Area}
 use Rattle.osc_world.specs.declared.Area.TheVariants as area
 use Rattle.osc_world.specs.declared.Place.{Place}
-use Rattle.osc_world.specs.Values.{advanced, is_pointer_value, parts, spread, gather, number_or_pointer, numbers_in, pointer_in, are_parts}
-use Rattle.osc_world.specs.States.{Process, Thread, value_in, changed_at}
-use Rattle.osc_world.specs.Deeds.{Steps, Heaps, Writes, Shares, Forks, Spawns, Exits, Leaves, sets, answers, is_number}
-use Rattle.osc_world.specs.Offers.{Meaning, Goes, Errs, Unfit, Only, Grants, Starts, Conditional, Never, then_try, provided, answers_if, thread_at, thread_value, child_value, shares, write_count}
-use Rattle.osc_world.specs.World.{World, WorldTurn, WorldStep, WorldDeed, WorldOffer, WorldPut, Memory, Object, Live, Dead, Page, killed, ObjectDeed, Makes, Kills, Replaces}
-use Rattle.osc_world.specs.Operations.{only_if, operated, operated_imm, multiplied, is_taken_for, amo_value, is_amo_operand, has_offset, is_below, number_if}
+use Rattle.osc_world.specs.Values.{advanced, parts, gather, number_or_pointer, numbers_in, are_parts}
+use Rattle.osc_world.specs.States.{Process, Thread}
+use Rattle.osc_world.specs.Deeds.{Steps, Heaps, Writes, Shares, sets, answers, is_number}
+use Rattle.osc_world.specs.Offers.{Goes, Unfit, Conditional, then_try, provided, answers_if, thread_at, thread_value, child_value, shares, write_count}
+use Rattle.osc_world.specs.World.{WorldTurn, WorldStep, WorldOffer, WorldPut, Memory, Object, Live, Dead, Page, killed, Makes, Kills, Replaces}
+use Rattle.osc_world.specs.Operations.{operated, operated_imm, multiplied, is_taken_for, amo_value, is_amo_operand}
 use Rattle.osc_world.specs.Accesses.{aimed, memory_page, object_bytes, page_bytes, area_bytes, bytes_at, value_at, is_shared_area, is_storable, puts, row_at}
-use Rattle.osc_world.specs.Instructions.{register_of, objects_of, sets_if, goes_to, passes, jumps, jumps_by, branches, loaded_value, loads, after_put, stores, widened_value, amos, reserves, holds_reservation, conditional_step, succeeds, conditional}
+use Rattle.osc_world.specs.Instructions.{register_of, objects_of, sets_if, goes_to, passes, jumps_by, branches, loaded_value, loads, after_put, stores, widened_value, amos, reserves, holds_reservation, conditional_step, succeeds, conditional}
 use Rattle.osc_world.specs.Calls.{zeros, resized, without_object, objects_after, is_live_start, free_deed, with_number, grants_object, malloc_offer, realloc_offer, write_deed, only_deed, serves, calls}
 use Rattle.osc_world.specs.Events.{only_step, offered}
-use Rattle.osc_world.specs.Knows.{is_granted, is_known, is_known_byte, is_plain_byte, knows_object, knows_page, knows_memory, objects_by, knows_hart, knows_left, knows_thread, Knows}
+use Rattle.osc_world.specs.Knows.{is_granted, is_known, is_known_byte, is_plain_byte, knows_object, knows_page, knows_memory, objects_by, knows_left, knows_thread, Knows}
 use Rattle.osc_world.proofs.Lists.{length-changed_at}
-use Rattle.osc_world.proofs.Known.{and-both, and-left, and-right, all-at, all-more, all-append, all-take, all-drop, all-replicate, all-changed_at, known-more, page-more, object-more, bytes-more}
+use Rattle.osc_world.proofs.Known.{and-both, and-left, and-right, all-at, all-more, all-append, all-take, all-drop, all-replicate, all-changed_at, page-more, object-more, bytes-more}
 use Rattle.osc_world.proofs.KnownDeeds.{InTurn, KnownPut, KnownDeed, own-count, regs-known, own-memory}
-use Rattle.osc_world.proofs.Table.{OfMeaning, OfOffer, OfResult, OfDeed}
+use Rattle.osc_world.proofs.Table.{OfMeaning, OfOffer, OfResult}
 
 -- the objects of the turn's process
 abbrev pub count : WorldTurn → ℕ

@@ -10,3 +10,4 @@ pub mod Growth
 pub mod Known
 pub mod KnownDeeds
 pub mod KnownOffers
+pub mod KnownRuns
