@@ -26,6 +26,7 @@ use Rattle.osc_world.specs.World.{World, WorldTurn, WorldPut, Memory, Object, Li
 abbrev pub in_area : Area → ℕ → Place
 in_area area offset = record { area = area; offset = offset }
 
+-- the page of a number
 abbrev pub memory_page : List Page → ℕ → Option Page
 memory_page pages number = find (λ (page : Page). page.number == number) pages
 
