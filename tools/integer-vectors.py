@@ -37,6 +37,17 @@ def shown(n):
     return str(n) if abs(n) < 0x1000 else hex(n)
 
 
+def quotient(a, b):
+    """Rounded towards zero; by 0 all bits are set."""
+    if b == 0:
+        return ALL
+    return abs(a) // abs(b) * (1 if (a < 0) == (b < 0) else -1)
+
+
+def remainder(a, b):
+    return a if b == 0 else a - b * quotient(a, b)
+
+
 PC = 0x1000
 values, flows = [], []
 
@@ -72,6 +83,28 @@ of_two("and", A, B, 0xF000F000)
 of_two("xor", ALL, 5, wrap(-6))
 of_two("or", TOP, ALL, ALL)
 of_two("and", TOP, ALL, TOP)
+
+# Products: the halves of all 128 bits, and the low 32 bits of words.
+for a, b in [(3, 5), (ALL, ALL), (TOP, TOP), (TOP, ALL), (ALL, TOP), (TOP - 1, TOP - 1), (2**32, 2**32)]:
+    of_two("mul", a, b, a * b)
+    of_two("mulh", a, b, signed(a) * signed(b) >> 64)
+    of_two("mulhsu", a, b, signed(a) * b >> 64)
+    of_two("mulhu", a, b, a * b >> 64)
+for a, b in [(0x7FFFFFFF, 2), (0x80000000, 0xFFFFFFFF), (0x100000003, 5), (ALL, 7)]:
+    of_two("mulw", a, b, word(a * b))
+
+# Quotients and remainders: every pair of signs, by 0, and the least number by -1.
+for a, b in [(7, 2), (wrap(-7), 2), (7, wrap(-2)), (wrap(-7), wrap(-2)), (5, 0), (TOP, 0), (TOP, ALL), (TOP, 1), (TOP - 1, ALL), (2, 3), (ALL, TOP)]:
+    of_two("div", a, b, quotient(signed(a), signed(b)))
+    of_two("divu", a, b, quotient(a, b))
+    of_two("rem", a, b, remainder(signed(a), signed(b)))
+    of_two("remu", a, b, remainder(a, b))
+for a, b in [(wrap(-7), 2), (7, 0xFFFFFFFE), (5, 0), (0x80000000, 2**32), (0x80000000, 0xFFFFFFFF), (0xFFFFFFFF, 1), (0x500000009, 0x300000004)]:
+    low_a, low_b = a % 2**32, b % 2**32
+    of_two("divw", a, b, word(quotient(signed(a, 32), signed(b, 32))))
+    of_two("divuw", a, b, word(quotient(low_a, low_b)))
+    of_two("remw", a, b, word(remainder(signed(a, 32), signed(b, 32))))
+    of_two("remuw", a, b, word(remainder(low_a, low_b)))
 
 # Shifts by the low 6 bits of x6, or its low 5 bits in the W forms.
 A = wrap(-5)
@@ -206,7 +239,7 @@ def words_of(sources):
         source, obj, out = (os.path.join(folder, name) for name in ["rows.s", "rows.o", "rows.bin"])
         with open(source, "w") as file:
             file.write(".option norvc\n.option norelax\n" + "\n".join(sources) + "\n")
-        subprocess.run([PREFIX + "as", "-march=rv64ia_zifencei", "-o", obj, source], check=True)
+        subprocess.run([PREFIX + "as", "-march=rv64ima_zifencei", "-o", obj, source], check=True)
         subprocess.run([PREFIX + "objcopy", "-O", "binary", obj, out], check=True)
         code = open(out, "rb").read()
     assert len(code) == 4 * len(sources)

@@ -18,7 +18,10 @@ const FRAMES: u32 = 4096;
 const PAGES: u64 = 65536;
 
 /// The most jobs of one change.
-const MOST_JOBS: u32 = 5;
+const MOST_JOBS: u32 = 7;
+
+/// The number of levels of page tables.
+const LEVELS: u8 = 3;
 
 /// Which pages are unmapped first.
 #[derive(Clone, Copy)]
@@ -44,9 +47,9 @@ pub fn paired(alloc: Global, count: u64, order: Order) -> Result<u64, AllocError
 
 /// Open tables without a page, and the frames of their machine.
 fn machine(alloc: Global) -> Result<Option<(Tables, Frames)>, AllocError>
-    ensures { IfOk result (λ made. IfSome made (λ m. IsOpen 2 m.0 × HasTaken m.0 m.1)) }
+    ensures { IfOk result (λ made. IfSome made (λ m. IsOpen m.0 × HasTaken m.0 m.1 × (m.0.top ≡ 2))) }
 {
-    let mut tables = Tables::new(alloc, FRAMES, PAGES as u32)?;
+    let mut tables = Tables::new(alloc, FRAMES, PAGES as u32, LEVELS)?;
     let mut frames = frames(alloc)?;
     if open(&mut tables, &mut frames) {
         Ok(Some((tables, frames)))
@@ -64,9 +67,9 @@ fn frames(alloc: Global) -> Result<Frames, AllocError>
 
 /// Opens closed tables on the least free frame, where there is one.
 fn open(tables: &mut Tables, frames: &mut Frames) -> bool
-    requires closed { tables.old ≡ closed 4096 65536 }
+    requires closed { tables.old ≡ closed 3 4096 65536 }
     requires count { length frames.old ≡ 4096 }
-    ensures { IsTrue result → IsOpen 2 tables.new × HasTaken tables.new frames.new }
+    ensures { IsTrue result → IsOpen tables.new × HasTaken tables.new frames.new × (tables.new.top ≡ 2) }
 {
     if let Some(root) = frames.take() {
         tables.open(root);
@@ -77,12 +80,14 @@ fn open(tables: &mut Tables, frames: &mut Frames) -> bool
 
 /// Maps each page, and says how many were mapped.
 fn map_all(tables: &mut Tables, frames: &mut Frames, jobs: &mut Jobs) -> u64
-    requires opened { IsOpen 2 tables.old }
+    requires levels { tables.old.top ≡ 2 }
+    requires opened { IsOpen tables.old }
     requires taken { HasTaken tables.old frames.old }
-    requires room { jobs.old.room ≡ 5 }
-    ensures opened { IsOpen 2 tables.new }
+    requires room { jobs.old.room ≡ 7 }
+    ensures levels { tables.new.top ≡ 2 }
+    ensures opened { IsOpen tables.new }
     ensures taken { HasTaken tables.new frames.new }
-    ensures room { jobs.new.room ≡ 5 }
+    ensures room { jobs.new.room ≡ 7 }
 {
     let mut sum = 0;
     for page in 0..PAGES {
@@ -96,12 +101,14 @@ fn map_all(tables: &mut Tables, frames: &mut Frames, jobs: &mut Jobs) -> u64
 /// Maps a page to frame 0 for reads and writes, where there is room for it.
 fn map(tables: &mut Tables, page: u64, frames: &mut Frames, jobs: &mut Jobs) -> bool
     requires page { page < 2 ^ 26 }
-    requires opened { IsOpen 2 tables.old }
+    requires levels { tables.old.top ≡ 2 }
+    requires opened { IsOpen tables.old }
     requires taken { HasTaken tables.old frames.old }
-    requires room { jobs.old.room ≡ 5 }
-    ensures opened { IsOpen 2 tables.new }
+    requires room { jobs.old.room ≡ 7 }
+    ensures levels { tables.new.top ≡ 2 }
+    ensures opened { IsOpen tables.new }
     ensures taken { HasTaken tables.new frames.new }
-    ensures room { jobs.new.room ≡ 5 }
+    ensures room { jobs.new.room ≡ 7 }
 {
     let mapping = Mapping {
         frame: 0,
@@ -124,12 +131,14 @@ fn map(tables: &mut Tables, page: u64, frames: &mut Frames, jobs: &mut Jobs) -> 
 
 /// Unmaps each page, and says how many were unmapped.
 fn unmap_all(tables: &mut Tables, frames: &Frames, jobs: &mut Jobs, order: Order) -> u64
-    requires opened { IsOpen 2 tables.old }
+    requires levels { tables.old.top ≡ 2 }
+    requires opened { IsOpen tables.old }
     requires taken { HasTaken tables.old frames.now }
-    requires room { jobs.old.room ≡ 5 }
-    ensures opened { IsOpen 2 tables.new }
+    requires room { jobs.old.room ≡ 7 }
+    ensures levels { tables.new.top ≡ 2 }
+    ensures opened { IsOpen tables.new }
     ensures taken { HasTaken tables.new frames.now }
-    ensures room { jobs.new.room ≡ 5 }
+    ensures room { jobs.new.room ≡ 7 }
 {
     let mut sum = 0;
     for number in 0..PAGES {
@@ -146,12 +155,14 @@ fn unmap_all(tables: &mut Tables, frames: &Frames, jobs: &mut Jobs, order: Order
 
 /// Unmaps a page, where it is mapped.
 fn unmap(tables: &mut Tables, page: u64, frames: &Frames, jobs: &mut Jobs) -> bool
-    requires opened { IsOpen 2 tables.old }
+    requires levels { tables.old.top ≡ 2 }
+    requires opened { IsOpen tables.old }
     requires taken { HasTaken tables.old frames.now }
-    requires room { jobs.old.room ≡ 5 }
-    ensures opened { IsOpen 2 tables.new }
+    requires room { jobs.old.room ≡ 7 }
+    ensures levels { tables.new.top ≡ 2 }
+    ensures opened { IsOpen tables.new }
     ensures taken { HasTaken tables.new frames.now }
-    ensures room { jobs.new.room ≡ 5 }
+    ensures room { jobs.new.room ≡ 7 }
 {
     if tables.at(page).is_none() {
         return false;

@@ -1,3 +1,8 @@
-pub mod JobLawProofs
+pub mod MoveLawProofs
 pub mod CallLawProofs
-pub mod MarkLawProofs
+pub mod RefusalLawProofs
+pub mod ReasonLawProofs
+pub mod CauseLawProofs
+pub mod ObjectLawProofs
+pub mod ObjectStepProofs
+pub mod LabelLawProofs

@@ -8,33 +8,49 @@ use Rattle.osc_word.specs.declared.calls.Request.TheVariants as request
 use Rattle.osc_word.specs.declared.calls.Answer.{Answer}
 use Rattle.osc_word.specs.declared.calls.Entry.{Entry}
 use Rattle.osc_word.specs.declared.calls.Resume.{Resume}
+use Rattle.osc_word.specs.declared.job_list.Job.{Job}
+use Rattle.osc_word.specs.declared.steps.Label.{Label}
 use Rattle.osc_image.specs.Image.{Image}
 use Rattle.osc_space.specs.Header.{Found}
 use Rattle.osc_calls.specs.declared.Report.{Report}
 use Rattle.osc_calls.specs.declared.BoxChange.{BoxChange}
 use Rattle.osc_calls.specs.Kernel.{KernelState, Process, process_at}
+use Rattle.osc_calls.specs.ProcessPlans.{no_registers}
 use Rattle.osc_calls.specs.Begin.{Began, begin, no_words}
 use Rattle.osc_calls.specs.Plan.{plan}
-use Rattle.osc_calls.specs.Boxes.{no_registers, box_change}
+use Rattle.osc_calls.specs.JobDone.{job_done}
+use Rattle.osc_calls.specs.Boxes.{box_change}
 use Rattle.osc_calls.specs.Finish.{Finished, finish}
 use Rattle.osc_calls.specs.Open.{open_page, open_pages, open_word, rooted, kernel_with}
 
 -- ---- the machine: so many harts, and a process that has its topmost table alone
 abbrev pub small : ℕ → Config
-small harts = record { heap = Oscar; harts = harts; processes = 2; frames = 16; shadows = 3; journal = 8 }
+small harts = record {
+  heap = Oscar;
+  harts = harts;
+  processes = 2;
+  frames = 16;
+  shadows = 3;
+  journal = 8;
+  levels = 3;
+  batch = 1;
+}
 
 abbrev pub machine : Config → KernelState
-machine config = kernel_with config 0 (rooted config)
+machine config = kernel_with config (rooted config)
 
 abbrev pub first : ℕ → KernelState
 first harts = machine (small harts)
 
--- the same on the plain heap, and with a journal of one entry
+-- the same on the plain heap, with a journal of one entry, and where two freed objects wait for each other
 abbrev pub plain_first : KernelState
 plain_first = machine (record (small 1) { heap = Plain })
 
 abbrev pub brief_first : KernelState
 brief_first = machine (record (small 2) { journal = 1 })
+
+abbrev pub paired_first : KernelState
+paired_first = machine (record (small 2) { batch = 2 })
 
 -- ---- calls
 -- a call of a hart, and the header as it is found where the call reads one
@@ -56,7 +72,19 @@ beginning a kernel = begin a.hart no_registers 0x10000 (request.Call a.call) ker
 
 -- once it is committed
 abbrev pub planned : Asks → KernelState → KernelState
-planned a kernel = plan a.found (beginning a kernel).kernel
+planned a kernel = (plan a.found (beginning a kernel).kernel).kernel
+
+-- what the commit shows, where the call waits for boxes or a header
+abbrev pub plan_shows : Asks → KernelState → List Label
+plan_shows a kernel = (plan a.found (beginning a kernel).kernel).shows
+
+abbrev pub jobs_of : Asks → KernelState → List Job
+jobs_of a kernel = (planned a kernel).jobs
+
+-- with so many of its jobs done, each of which has read this word last
+abbrev pub works : List ℕ → KernelState → KernelState
+works [] kernel = kernel
+works (word ∷ words) kernel = works words (job_done word kernel).kernel
 
 -- once it has returned
 abbrev pub answer_to : Asks → KernelState → Finished
@@ -70,6 +98,11 @@ after (a ∷ rest) kernel = after rest (answer_to a kernel).kernel
 abbrev pub resumes : List Asks → KernelState → List Resume
 resumes [] kernel = []
 resumes (a ∷ rest) kernel = let f = answer_to a kernel in f.resume ∷ resumes rest f.kernel
+
+-- what the returns show
+abbrev pub returns_show : List Asks → KernelState → List (List Label)
+returns_show [] kernel = []
+returns_show (a ∷ rest) kernel = let f = answer_to a kernel in f.shows ∷ returns_show rest f.kernel
 
 abbrev pub reports : KernelState → List Report
 reports kernel = kernel.reports
@@ -96,13 +129,14 @@ one_page = record {
   }) ∷ [];
 }
 
-abbrev pub one_page_opened : KernelState
-one_page_opened = open_pages (open_page 16 (record { 0 = 10 }) ∷ []) (record (small 1) { frames = 24 })
+abbrev pub one_page_opened : ℕ → KernelState
+one_page_opened levels =
+    open_pages (open_page 16 (record { 0 = 10 }) ∷ []) (record (small 1) { frames = 24; levels = levels })
 
-abbrev pub word_in : Option Process → ℕ → ℕ → ℕ
-word_in None frame index = 0
-word_in (Some p) frame index = open_word one_page p.space.tables frame index
+abbrev pub opened_word : Option Process → ℕ → ℕ → ℕ
+opened_word None frame index = 0
+opened_word (Some p) frame index = open_word one_page p.space.tables frame index
 
 -- what stands at this place of memory at the start
 abbrev pub word_opened : ℕ → ℕ → ℕ
-word_opened frame index = word_in (process_at one_page_opened 0) frame index
+word_opened frame index = opened_word (process_at (one_page_opened 3) 0) frame index

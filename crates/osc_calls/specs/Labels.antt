@@ -1,8 +1,8 @@
--- What a call tells of itself: when it commits, when a byte is written out, and when it returns. This
+-- What the steps of a call show: when it commits, when bytes are written out, and when it returns. This
 -- project's own.
-use Rattle.std.specs.Prelude.{ℕ, ◌+◌, ◌-◌, ◌%◌, ◌^◌, true, false, Bool, List, sum_by, Option, Some, None}
+use Rattle.std.specs.Prelude.{ℕ, ◌+◌, ◌-◌, ◌%◌, ◌^◌, true, false, Bool, List, [], ◌∷◌, ◌++◌, map, sum_by, Option, Some, None}
 use Rattle.osc_word.specs.declared.job_list.Job.{Job}
-use Rattle.osc_word.specs.declared.job_list.Job.TheVariants.{PutWord, ZeroWords, CopyWords, CopyPart, CopyTable, ClearBox, Tell, ToOut}
+use Rattle.osc_word.specs.declared.job_list.Job.TheVariants.{ToOut}
 use Rattle.osc_word.specs.declared.calls.Call.{Call}
 use Rattle.osc_word.specs.declared.calls.Call.TheVariants.{Write, Fork, End}
 use Rattle.osc_word.specs.declared.calls.Answer.{Answer}
@@ -11,72 +11,76 @@ use Rattle.osc_word.specs.declared.steps.Label.{Label}
 use Rattle.osc_word.specs.declared.steps.Label.TheVariants.{Gave, Freeing, Freed, Moving, Moved, Touched, Forked, Ended}
 use Rattle.osc_word.specs.declared.steps.Access.TheVariants.{Load}
 use Rattle.osc_space.specs.declared.ObjectFact.{ObjectFact}
+use Rattle.osc_space.specs.declared.ObjectState.{ObjectState}
+use Rattle.osc_space.specs.declared.ObjectState.TheVariants.{Live, Dead}
 use Rattle.osc_space.specs.Objects.{fact}
-use Rattle.osc_calls.specs.declared.Life.{Life}
-use Rattle.osc_calls.specs.declared.Life.TheVariants as life
-use Rattle.osc_calls.specs.Kernel.{Calling, UnderWay, Quiet, Retrying, Leaving, Waiting, Returning}
+use Rattle.osc_calls.specs.Kernel.{Calling, Effect, Starts, Ends, UnderWay, Returning}
 
 -- ---- when a call commits
 abbrev pub is_fault : Call → Bool
 is_fault (End fault) = true
 is_fault _ = false
 
--- of a process that ends
-abbrev pub end_label : Calling → Life → Option Label
-end_label c life.Lives = None
-end_label c (life.Ends status) = Some (Ended c.pid (is_fault c.call) status)
-end_label c (life.Ended status) = None
+-- a fork shows its child
+abbrev pub child_shows : ℕ → Call → ℕ → List Label
+child_shows pid Fork child = Forked pid child ∷ []
+child_shows pid _ child = []
 
--- a fork answers the child's number
-abbrev pub fork_label : ℕ → Call → ℕ → Option Label
-fork_label pid Fork number = Some (Forked pid number)
-fork_label pid _ number = None
+abbrev pub effect_shows : Calling → Effect → List Label
+effect_shows c (Starts hart start) = child_shows c.pid c.call start.pid
+effect_shows c (Ends status) = Ended c.pid (is_fault c.call) status ∷ []
+effect_shows c _ = []
 
--- `place` is the call's place in the journal, and `now` says whether its process has ended by it
-abbrev pub plan_label : Calling → ℕ → Answer → Life → Option Label
-plan_label c place (answers.Freed object) now = Some (Freeing c.pid object place)
-plan_label c place (answers.Moved old object pointer) now = Some (Moving c.pid old place)
-plan_label c place (answers.BadBuffer address) now = Some (Touched c.pid c.hart address 1 Load false)
-plan_label c place (answers.Number number) now = fork_label c.pid c.call number
-plan_label c place answers.Ended now = end_label c now
-plan_label c place _ now = None
+-- `place` is the call's place in the journal
+abbrev pub plan_shows : Calling → ℕ → Answer → Effect → List Label
+plan_shows c place (answers.Freed object) effect = Freeing c.pid object place ∷ []
+plan_shows c place (answers.Moved old object pointer) effect = Moving c.pid old place ∷ []
+plan_shows c place (answers.BadBuffer address) effect = Touched c.pid c.hart address 1 Load false ∷ []
+plan_shows c place _ effect = effect_shows c effect
 
 -- ---- when bytes are written out
 abbrev pub out_count : Job → ℕ
-out_count (PutWord at value) = 0
-out_count (ZeroWords at count) = 0
-out_count (CopyWords from to count) = 0
-out_count (CopyPart from to bytes) = 0
-out_count (CopyTable from to) = 0
-out_count (ClearBox hart) = 0
-out_count (Tell hart) = 0
 out_count (ToOut at first count) = count
+out_count _ = 0
 
--- the next bytes of a buffer, of which so many are still to be written
-abbrev pub buffer_label : Calling → Call → Answer → ℕ → ℕ → Option Label
-buffer_label c (Write buf len) (answers.Number total) left count =
-    Some (Touched c.pid c.hart ((buf + (total - left)) % 2 ^ 64) count Load true)
-buffer_label c _ _ left count = None
+-- so many bytes of a buffer, of which so many are still to be written
+abbrev pub buffer_shows : Calling → Call → Answer → ℕ → ℕ → List Label
+buffer_shows c (Write buf len) (answers.Number total) pending count =
+    Touched c.pid c.hart ((buf + (total - pending)) % 2 ^ 64) count Load true ∷ []
+buffer_shows c _ _ pending count = []
 
--- of these bytes, which are the first of those that the pending jobs write
-abbrev pub out_label : UnderWay → List Job → ℕ → Option Label
-out_label Quiet jobs count = None
-out_label Retrying jobs count = None
-out_label (Leaving hart) jobs count = None
-out_label (Waiting c) jobs count = None
-out_label (Returning done) jobs count = buffer_label done.calling done.calling.call done.answer (sum_by out_count jobs) count
+-- of the first of these jobs, once it is done
+abbrev pub out_shows : UnderWay → List Job → List Label
+out_shows (Returning done) (ToOut at first count ∷ jobs) =
+    buffer_shows done.calling done.calling.call done.answer (count + sum_by out_count jobs) count
+out_shows _ _ = []
 
 -- ---- when a call returns
-abbrev pub gave_label : ℕ → ℕ → Option ObjectFact → Option Label
-gave_label pid object None = None
-gave_label pid object (Some o) = Some (Gave pid object o.first o.pages o.size)
+abbrev pub gave_shows : ℕ → ℕ → Option ObjectFact → List Label
+gave_shows pid object None = []
+gave_shows pid object (Some o) = Gave pid object o.first o.pages o.size ∷ []
 
-abbrev pub moved_label : ℕ → ℕ → ℕ → ℕ → Option ObjectFact → Option Label
-moved_label pid old place object None = None
-moved_label pid old place object (Some o) = Some (Moved pid old place object o.first o.pages o.size)
+abbrev pub moved_shows : ℕ → ℕ → ℕ → ℕ → Option ObjectFact → List Label
+moved_shows pid old place object None = []
+moved_shows pid old place object (Some o) = Moved pid old place object o.first o.pages o.size ∷ []
 
-abbrev pub return_label : ℕ → ℕ → List ObjectFact → Answer → Option Label
-return_label pid place objects (answers.Given object pointer) = gave_label pid object (fact objects object)
-return_label pid place objects (answers.Freed object) = Some (Freed pid object place)
-return_label pid place objects (answers.Moved old object pointer) = moved_label pid old place object (fact objects object)
-return_label pid place objects _ = None
+abbrev pub answer_shows : ℕ → ℕ → List ObjectFact → Answer → List Label
+answer_shows pid place objects (answers.Given object pointer) = gave_shows pid object (fact objects object)
+answer_shows pid place objects (answers.Moved old object pointer) = moved_shows pid old place object (fact objects object)
+answer_shows pid place objects _ = []
+
+-- the call by which an object died
+abbrev pub death_of_state : ObjectState → ℕ
+death_of_state Live = 0
+death_of_state (Dead call) = call
+
+abbrev pub death_of : Option ObjectFact → ℕ
+death_of None = 0
+death_of (Some o) = death_of_state o.state
+
+abbrev pub freed_label : ℕ → List ObjectFact → ℕ → Label
+freed_label pid objects object = Freed pid object (death_of (fact objects object))
+
+-- first what a flush has freed, in the order of the calls, then what the call gave
+abbrev pub return_shows : ℕ → ℕ → List ObjectFact → List ℕ → Answer → List Label
+return_shows pid place objects freed answer = map (freed_label pid objects) freed ++ answer_shows pid place objects answer

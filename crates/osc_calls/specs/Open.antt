@@ -1,13 +1,14 @@
 -- The kernel and the words of memory at the start: process 0 with its image and its stack. Frames are
 -- taken from the least on: the root, and then for each page ascending the tables that are missing
 -- over it, from the top, and its own. This project's own; the flags of a leaf are those of the RISC-V
--- Privileged manual, "Sv39".
-use Rattle.std.specs.Prelude.{ℕ, ◌+◌, ◌*◌, ◌/◌, ◌%◌, ◌==◌, true, false, List, [], ◌∷◌, ◌++◌, length, map, find, position, replicate, slice_set, Option, Some, None, unwrap_or}
+-- Privileged manual, "Sv39" and "Sv48".
+use Rattle.std.specs.Prelude.{ℕ, ◌+◌, ◌*◌, ◌/◌, ◌%◌, ◌==◌, true, false, List, [], ◌∷◌, ◌++◌, map, find, position, replicate, slice_set, Option, Some, None, unwrap_or}
 use Rattle.std.specs.List.{range_with_len, filter_map}
 use Rattle.std.specs.Option.{option_map}
 use Rattle.byteorder.specs.Endian.{little_number}
 use Rattle.osc_word.specs.declared.settings.Config.{Config}
 use Rattle.osc_word.specs.declared.orders.Start.{Start}
+use Rattle.osc_word.specs.AddressMap.{stack_end}
 use Rattle.osc_word.specs.Registers.{with_register}
 use Rattle.osc_sv39.specs.declared.flags.PteBits.{PteBits}
 use Rattle.osc_slot.specs.Heap.{empty_heap}
@@ -19,11 +20,11 @@ use Rattle.osc_image.specs.Image.{Image, bits_at, byte_at, pages}
 use Rattle.osc_image.specs.Frames.{stack_pages}
 use Rattle.osc_space.specs.Share.{no_regions}
 use Rattle.osc_space.specs.Space.{Space}
+use Rattle.osc_space.specs.LeafFlags.{leaf_of_page}
 use Rattle.osc_calls.specs.declared.HartRecord.{HartRecord}
 use Rattle.osc_calls.specs.declared.HartRecord.TheVariants.{Idle, Runs}
-use Rattle.osc_calls.specs.declared.Life.TheVariants.{Lives}
-use Rattle.osc_calls.specs.Kernel.{KernelState, Process, Quiet, top_of, process_at}
-use Rattle.osc_calls.specs.Boxes.{root, no_registers}
+use Rattle.osc_calls.specs.Kernel.{KernelState, Process, Quiet, process_at, root}
+use Rattle.osc_calls.specs.ProcessPlans.{no_registers, thread_start}
 
 -- ---- the pages
 -- a page, by its number, and R, W and X
@@ -46,28 +47,24 @@ abbrev pub all_pages : List OpenPage → List OpenPage
 all_pages of_image = of_image ++ map (λ page. open_page page (record { 0 = 6 })) stack_pages
 
 -- ---- the tables
--- V, U, A and D with a page's R, W and X
-abbrev pub leaf_bits : PteBits → PteBits
-leaf_bits bits = record { 0 = bits.0 + 0xD1 }
-
 -- a page gets this frame
 abbrev pub laid : OpenPage → Option ℕ → Changed → Changed
 laid p None c = c
 laid p (Some frame) c =
-    put_leaf p.page (record { frame = frame; bits = leaf_bits p.bits }) (record c { free = slice_set c.free frame false })
+    put_leaf p.page (record { frame = frame; bits = leaf_of_page p.bits }) (record c { free = slice_set c.free frame false })
 
 abbrev pub lay : OpenPage → Changed → Changed
 lay p c = laid p (position (λ b. b) c.free) c
 
 -- the missing tables first, and then the least free frame
-abbrev pub lay_all : ℕ → List OpenPage → Changed → Changed
-lay_all top [] c = c
-lay_all top (p ∷ rest) c = lay_all top rest (lay p (link_all top p.page c))
+abbrev pub lay_all : List OpenPage → Changed → Changed
+lay_all [] c = c
+lay_all (p ∷ rest) c = lay_all rest (lay p (link_all c.tables.top p.page c))
 
 -- the topmost table alone, in the least frame
 abbrev pub rooted : Config → Changed
 rooted config = record {
-  tables = opened (top_of config) 0 (closed config.frames (config.frames + config.shadows));
+  tables = opened 0 (closed config.levels config.frames (config.frames + config.shadows));
   free = slice_set (replicate config.frames true) 0 false;
   jobs = [];
 }
@@ -79,18 +76,17 @@ first_records harts = slice_set (replicate harts Idle) 0 (Runs 0 None)
 
 abbrev pub first_space : Config → KeptTables → Space
 first_space config tables =
-    record { tables = tables; objects = []; shadows = config.shadows; heap = empty_heap config.frames }
+    record { tables = tables; objects = []; waiting = []; shadows = config.shadows; heap = empty_heap config.frames }
 
-abbrev pub first_process : Config → ℕ → KeptTables → Process
-first_process config image tables =
-    record { space = first_space config tables; image = image; inherited = 0; parent = None; life = Lives }
+abbrev pub first_process : Config → KeptTables → Process
+first_process config tables = record { space = first_space config tables; inherited = 0; parent = None; status = None }
 
 -- the jobs that make the words of the tables are the first ones
-abbrev pub kernel_with : Config → ℕ → Changed → KernelState
-kernel_with config image c = record {
+abbrev pub kernel_with : Config → Changed → KernelState
+kernel_with config c = record {
   config = config;
   free = c.free;
-  processes = first_process config image c.tables ∷ [];
+  processes = first_process config c.tables ∷ [];
   regions = no_regions config.frames;
   threads = [];
   records = first_records config.harts;
@@ -100,13 +96,11 @@ kernel_with config image c = record {
   jobs = c.jobs;
   under_way = Quiet;
   peak = 0;
-  label = None;
 }
 
 -- the kernel for an image of these pages, with the jobs of their tables
 abbrev pub opening : List OpenPage → Config → KernelState
-opening of_image config =
-    kernel_with config (length of_image) (lay_all (top_of config) (all_pages of_image) (rooted config))
+opening of_image config = kernel_with config (lay_all (all_pages of_image) (rooted config))
 
 -- the kernel at the start: the jobs are done
 abbrev pub open_pages : List OpenPage → Config → KernelState
@@ -149,4 +143,4 @@ open_words image kernel = words_with image kernel.config.frames (process_at kern
 -- it begins at the entry with the stack's end in x2
 abbrev pub open_start : Image → KernelState → Start
 open_start image kernel =
-    record { pid = 0; root = root kernel 0; regs = with_register no_registers 2 0x100100000; pc = image.entry }
+    thread_start kernel.config 0 (root kernel 0) (with_register no_registers 2 stack_end) image.entry

@@ -2,11 +2,11 @@
 -- pages have that address, not the one that died last. This project's own.
 use Rattle.std.specs.Prelude.{ℕ, ℤ, pos, ◌-ℤ◌, ◌/◌, List, Option, Some, None}
 use Rattle.osc_word.specs.declared.calls.Fault.{Fault}
-use Rattle.osc_word.specs.declared.calls.Fault.TheVariants.{Access, DoubleFree, BadFree, Header, UnknownCall}
+use Rattle.osc_word.specs.declared.calls.Fault.TheVariants.{Access}
 use Rattle.osc_space.specs.declared.ObjectFact.{ObjectFact}
 use Rattle.osc_space.specs.declared.ObjectState.{ObjectState}
 use Rattle.osc_space.specs.declared.ObjectState.TheVariants as state
-use Rattle.osc_space.specs.Objects.{fact, owner}
+use Rattle.osc_space.specs.Objects.{Seen, object_on}
 use Rattle.osc_calls.specs.declared.Place.{Place}
 use Rattle.osc_calls.specs.declared.Place.TheVariants.{Dead, Live, Nowhere}
 use Rattle.osc_calls.specs.declared.Report.{Report}
@@ -15,29 +15,22 @@ use Rattle.osc_calls.specs.declared.Report.{Report}
 abbrev pub offset_of : ℕ → ObjectFact → ℤ
 offset_of address o = pos address -ℤ pos o.user
 
-abbrev pub place_on : ℕ → ℤ → ObjectState → Place
-place_on object offset state.Live = Live object offset
-place_on object offset (state.Dead call) = Dead object offset call
+abbrev pub object_place : ℕ → ℤ → ObjectState → Place
+object_place object offset state.Live = Live object offset
+object_place object offset (state.Dead call) = Dead object offset call
 
-abbrev pub place_in : ℕ → ℕ → Option ObjectFact → Place
-place_in address object None = Nowhere
-place_in address object (Some o) = place_on object (offset_of address o) o.state
-
-abbrev pub place_by : List ObjectFact → ℕ → Option ℕ → Place
-place_by objects address None = Nowhere
-place_by objects address (Some object) = place_in address object (fact objects object)
+abbrev pub seen_place : ℕ → Option Seen → Place
+seen_place address None = Nowhere
+seen_place address (Some seen) = object_place seen.number (offset_of address seen.fact) seen.fact.state
 
 -- whose address this is
 abbrev pub place_at : List ObjectFact → ℕ → Place
-place_at objects address = place_by objects address (owner objects (address / 4096))
+place_at objects address = seen_place address (object_on objects (address / 4096))
 
-abbrev pub place_of : List ObjectFact → Fault → Place
-place_of objects (Access cause address) = place_at objects address
-place_of objects (DoubleFree pointer object call) = Nowhere
-place_of objects (BadFree pointer) = Nowhere
-place_of objects (Header object kept found) = Nowhere
-place_of objects (UnknownCall number) = Nowhere
+abbrev pub fault_place : List ObjectFact → Fault → Place
+fault_place objects (Access cause address) = place_at objects address
+fault_place objects _ = Nowhere
 
 -- the report of this process's end by a fault of a thread on this hart
 abbrev pub report_of : ℕ → ℕ → List ObjectFact → Fault → Report
-report_of pid hart objects fault = record { pid = pid; hart = hart; fault = fault; place = place_of objects fault }
+report_of pid hart objects fault = record { pid = pid; hart = hart; fault = fault; place = fault_place objects fault }

@@ -1,6 +1,6 @@
 //! Worked examples of calls. Each function does nothing: what it says is computed from the
 //! definitions.
-#![tactic(auto, unfolding(osc_class::specs::Rooms::room_of, osc_slot::specs::Least::least, osc_slot::specs::Least::any, osc_slot::specs::Slots::beside, osc_slot::specs::Slots::empty_page, osc_slot::specs::Ordered::insert_by, osc_slot::specs::Heap::back, osc_slot::specs::Heap::place, osc_slot::specs::Heap::release, osc_slot::specs::Heap::give_back, osc_paging::specs::KeptTables::missing, osc_paging::specs::KeptTables::need, osc_paging::specs::TableChanges::link_all, osc_space::specs::BlockWords::cut))]
+#![tactic(auto, unfolding(osc_class::specs::Rooms::room_of, osc_slot::specs::Least::least, osc_slot::specs::Least::any, osc_slot::specs::Slots::beside, osc_slot::specs::Slots::empty_page, osc_slot::specs::Ordered::insert_by, osc_slot::specs::Heap::back, osc_slot::specs::Heap::place, osc_slot::specs::Heap::release, osc_slot::specs::Heap::give_back, osc_paging::specs::KeptTables::missing, osc_paging::specs::KeptTables::need_below, osc_paging::specs::TableChanges::link_all, osc_space::specs::BlockWords::cut, osc_space::specs::Header::header_in, osc_space::specs::Malloc::malloc_plan, osc_space::specs::Free::free_plan, osc_space::specs::Realloc::realloc_plan, osc_space::specs::PlainHeap::plain_malloc_plan, osc_space::specs::PlainHeap::plain_free_plan, osc_space::specs::PlainHeap::plain_realloc_plan, osc_space::specs::Fork::fork_reasons, osc_space::specs::Fork::fork_plan, osc_space::specs::Share::share_reasons, osc_space::specs::Share::share_plan, osc_space::specs::Share::join, osc_space::specs::Share::leave, osc_space::specs::Finish::finished, osc_space::specs::Finish::ended, crate::specs::Begin::begin, crate::specs::Plan::plan, crate::specs::JobDone::job_done, crate::specs::Boxes::box_change, crate::specs::Choices::choice, crate::specs::Finish::finish))]
 
 ghost use Rattle.std.specs.Prelude.{ℕ, ◌≡◌, ◌-◌, ◌^◌, List, [], ◌∷◌, Some, None, pos, true, false};
 ghost use Rattle.osc_word.specs.declared.calls.Call.TheVariants.{Malloc, Free, Realloc, Write, Fork, Spawn, Join, Done, Share, Wait, Exit, End};
@@ -8,19 +8,22 @@ ghost use Rattle.osc_word.specs.declared.calls.Fault.TheVariants as faults;
 ghost use Rattle.osc_word.specs.declared.calls.Answer.TheVariants as answers;
 ghost use Rattle.osc_word.specs.declared.calls.Resume.TheVariants as resume;
 ghost use Rattle.osc_calls.specs.declared.Place.TheVariants as places;
-ghost use Rattle.osc_word.specs.declared.job_list.Job.TheVariants.{ToOut};
+ghost use Rattle.osc_word.specs.declared.job_list.Job.TheVariants.{PutWord, ClearBox, ToOut};
 ghost use Rattle.osc_word.specs.declared.orders.Order.TheVariants as orders;
 ghost use Rattle.osc_word.specs.declared.steps.Access.TheVariants.{Load};
 ghost use Rattle.osc_word.specs.declared.steps.Label.TheVariants as labels;
 ghost use Rattle.osc_calls.specs.declared.Begun.TheVariants as begun;
 ghost use Rattle.osc_calls.specs.declared.BoxChange.TheVariants.{Keep, Clear, Put};
 ghost use Rattle.osc_calls.specs.declared.HartRecord.TheVariants as records;
+ghost use Rattle.osc_word.specs.declared.steps.Choice.TheVariants as choices;
+ghost use Rattle.osc_calls.specs.Choices.{choice};
 ghost use Rattle.osc_calls.specs.Kernel.{ended, granted, is_over, in_use};
 ghost use Rattle.osc_calls.specs.JobDone.{job_done};
-ghost use Rattle.osc_calls.specs.Boxes.{no_registers};
+ghost use Rattle.osc_calls.specs.Finish.{finish};
+ghost use Rattle.osc_calls.specs.ProcessPlans.{no_registers};
 ghost use Rattle.osc_word.specs.Registers.{with_register};
 ghost use Rattle.osc_calls.specs.Open.{open_start};
-ghost use Rattle.osc_calls.specs.Examples.{first, plain_first, brief_first, asks, finds, beginning, planned, answer_to, after, resumes, reports, answers_of, changes, one_page, one_page_opened, word_opened};
+ghost use Rattle.osc_calls.specs.Examples.{first, plain_first, brief_first, paired_first, asks, finds, beginning, planned, plan_shows, jobs_of, works, answer_to, after, resumes, returns_show, reports, answers_of, changes, one_page, one_page_opened, word_opened};
 
 /// A load from a freed object is reported with the object and the call that freed it.
 pub fn freed_object_is_reported()
@@ -77,6 +80,26 @@ pub fn refusals_on_one_hart()
         ≡ answers.NoHart ∷ answers.NoHart ∷ answers.Empty ∷ answers.NoFrames ∷ answers.Unknown ∷ answers.Unknown ∷ [] }
 {}
 
+/// The second process is the last, and then the reasons come in their order.
+pub fn third_process_is_refused()
+    ensures full { answers_of (after (asks 0 Fork ∷ asks 0 Fork ∷ []) (first 3)) ≡ answers.Number 1 ∷ answers.NoProcess ∷ [] }
+    ensures hart { answers_of (after (asks 0 Fork ∷ asks 0 Fork ∷ []) (first 2)) ≡ answers.Number 1 ∷ answers.NoHart ∷ [] }
+    ensures begins { (beginning (asks 0 Fork) (first 1)).begun ≡ begun.Planned }
+    ensures shares { (beginning (asks 0 (Share 100000)) (first 1)).begun ≡ begun.Planned }
+    ensures takes { (beginning (asks 0 (Share 1)) (first 1)).begun ≡ begun.Boxes }
+{}
+
+/// What a call leaves open: a hart that starts a thread, memory that was given or refused, or nothing.
+pub fn what_is_left_open()
+    ensures started { choice (planned (asks 0 (Spawn 0x10000 0 0)) (first 2)) ≡ choices.Started 1 }
+    ensures alone { choice (planned (asks 0 Fork) (first 1)) ≡ choices.Refused }
+    ensures malloc { choice (planned (asks 0 (Malloc 24)) (first 1)) ≡ choices.Given }
+    ensures share { choice (planned (asks 0 (Share 1)) (first 1)) ≡ choices.Given }
+    ensures empty { choice (planned (asks 0 (Share 0)) (first 1)) ≡ choices.Refused }
+    ensures damaged { choice (planned (finds 0 (Realloc 0x1000000010 30) 0x2000010010 9) (after (asks 0 (Malloc 24) ∷ []) (first 1)))
+        ≡ choices.Plain }
+{}
+
 /// With three shadow pages the fourth malloc is refused.
 pub fn shadows_run_out()
     ensures { answers_of (after (asks 0 (Malloc 24) ∷ asks 0 (Malloc 24) ∷ asks 0 (Malloc 24) ∷ asks 0 (Malloc 24) ∷ []) (first 1))
@@ -99,22 +122,22 @@ pub fn joined_twice()
 
 /// A buffer's bytes go out one word after another, each with a label of its own.
 pub fn buffer_is_written()
-    ensures jobs { (planned (asks 0 (Write 0x1000000015 10)) (after (asks 0 (Malloc 24) ∷ []) (first 1))).jobs
+    ensures jobs { jobs_of (asks 0 (Write 0x1000000015 10)) (after (asks 0 (Malloc 24) ∷ []) (first 1))
         ≡ ToOut (record { frame = 1; index = 2 }) 5 3 ∷ ToOut (record { frame = 1; index = 3 }) 0 7 ∷ [] }
-    ensures output { (job_done 0x0807060504030201 (job_done 0x0807060504030201
-        (planned (asks 0 (Write 0x1000000015 10)) (after (asks 0 (Malloc 24) ∷ []) (first 1))))).output
+    ensures output { (works (0x0807060504030201 ∷ 0x0807060504030201 ∷ [])
+        (planned (asks 0 (Write 0x1000000015 10)) (after (asks 0 (Malloc 24) ∷ []) (first 1)))).output
         ≡ 6 ∷ 7 ∷ 8 ∷ 1 ∷ 2 ∷ 3 ∷ 4 ∷ 5 ∷ 6 ∷ 7 ∷ [] }
-    ensures label { (job_done 0 (job_done 0 (planned (asks 0 (Write 0x1000000015 10)) (after (asks 0 (Malloc 24) ∷ []) (first 1))))).label
-        ≡ Some (labels.Touched 0 0 0x1000000018 7 Load true) }
+    ensures shows { (job_done 0 (works (0 ∷ []) (planned (asks 0 (Write 0x1000000015 10)) (after (asks 0 (Malloc 24) ∷ []) (first 1))))).shows
+        ≡ labels.Touched 0 0 0x1000000018 7 Load true ∷ [] }
 {}
 
 /// A buffer that runs past its object's page is a fault at the first byte there.
 pub fn unreadable_buffer()
     ensures numbers { resumes (asks 0 (Malloc 24) ∷ asks 0 (Write 0x1000000ff8 16) ∷ []) (first 1)
         ≡ resume.Return 0x1000000010 ∷ resume.Fault (faults.Access 13 0x1000001000) ∷ [] }
-    ensures jobs { (planned (asks 0 (Write 0x1000000ff8 16)) (after (asks 0 (Malloc 24) ∷ []) (first 1))).jobs ≡ [] }
-    ensures label { (planned (asks 0 (Write 0x1000000ff8 16)) (after (asks 0 (Malloc 24) ∷ []) (first 1))).label
-        ≡ Some (labels.Touched 0 0 0x1000001000 1 Load false) }
+    ensures jobs { jobs_of (asks 0 (Write 0x1000000ff8 16)) (after (asks 0 (Malloc 24) ∷ []) (first 1)) ≡ [] }
+    ensures shows { plan_shows (asks 0 (Write 0x1000000ff8 16)) (after (asks 0 (Malloc 24) ∷ []) (first 1))
+        ≡ labels.Touched 0 0 0x1000001000 1 Load false ∷ [] }
 {}
 
 /// The harts of a process that ends are stopped, and every other box is cleared; with the last
@@ -135,33 +158,76 @@ pub fn harts_are_stopped()
 /// A child's thread begins after its parent's ecall, in a copy of the topmost table.
 pub fn child_starts()
     ensures { changes (planned (asks 0 Fork) (first 3))
-        ≡ Keep ∷ Put (orders.Start (record { pid = 1; root = 1; regs = no_registers; pc = 0x10004 })) ∷ Keep ∷ [] }
+        ≡ Keep ∷ Put (orders.Start (record { pid = 1; root = 1; regs = no_registers; pc = 0x10004; levels = 3; frames = 16 })) ∷ Keep ∷ [] }
 {}
 
-/// What malloc, free and realloc tell when they commit and when they return.
+/// What malloc, free and realloc show when they commit and when they return.
 pub fn heap_labels()
-    ensures gave { (after (asks 0 (Malloc 24) ∷ []) (first 1)).label ≡ Some (labels.Gave 0 0 0x1000000 1 24) }
-    ensures freeing { (planned (finds 0 (Free 0x1000000010) 0x2000010010 24) (after (asks 0 (Malloc 24) ∷ []) (first 1))).label
-        ≡ Some (labels.Freeing 0 0 1) }
-    ensures freed { (after (asks 0 (Malloc 24) ∷ finds 0 (Free 0x1000000010) 0x2000010010 24 ∷ []) (first 1)).label
-        ≡ Some (labels.Freed 0 0 1) }
-    ensures moving { (planned (finds 0 (Realloc 0x1000000010 30) 0x2000010010 24) (after (asks 0 (Malloc 24) ∷ []) (first 1))).label
-        ≡ Some (labels.Moving 0 0 1) }
-    ensures moved { (after (asks 0 (Malloc 24) ∷ finds 0 (Realloc 0x1000000010 30) 0x2000010010 24 ∷ []) (first 1)).label
-        ≡ Some (labels.Moved 0 0 1 1 0x1000001 1 30) }
+    ensures freeing { plan_shows (finds 0 (Free 0x1000000010) 0x2000010010 24) (after (asks 0 (Malloc 24) ∷ []) (first 1))
+        ≡ labels.Freeing 0 0 1 ∷ [] }
+    ensures freed { returns_show (asks 0 (Malloc 24) ∷ finds 0 (Free 0x1000000010) 0x2000010010 24 ∷ []) (first 1)
+        ≡ (labels.Gave 0 0 0x1000000 1 24 ∷ []) ∷ (labels.Freed 0 0 1 ∷ []) ∷ [] }
+    ensures moving { plan_shows (finds 0 (Realloc 0x1000000010 30) 0x2000010010 24) (after (asks 0 (Malloc 24) ∷ []) (first 1))
+        ≡ labels.Moving 0 0 1 ∷ [] }
+    ensures moved { returns_show (asks 0 (Malloc 24) ∷ finds 0 (Realloc 0x1000000010 30) 0x2000010010 24 ∷ []) (first 1)
+        ≡ (labels.Gave 0 0 0x1000000 1 24 ∷ []) ∷ (labels.Moved 0 0 1 1 0x1000001 1 30 ∷ []) ∷ [] }
 {}
 
-/// An image of one page takes 22 frames: its page, the stack's 16, and 5 tables. The root is in frame
-/// 0, and the page follows its two tables; its words are its bytes, the lowest first.
+/// Where two objects wait for each other, the first free only unmaps, and the second clears every box and
+/// frees both. A realloc frees what waits, and then moves.
+pub fn frees_in_pairs()
+    ensures first { jobs_of (finds 0 (Free 0x1000000010) 0x2000010010 24) (after (asks 0 (Malloc 24) ∷ asks 0 (Malloc 24) ∷ []) paired_first)
+        ≡ PutWord (record { frame = 3; index = 0 }) 0 ∷ [] }
+    ensures keeps { changes (planned (finds 0 (Free 0x1000000010) 0x2000010010 24) (after (asks 0 (Malloc 24) ∷ asks 0 (Malloc 24) ∷ []) paired_first))
+        ≡ Keep ∷ Keep ∷ [] }
+    ensures second { jobs_of (finds 0 (Free 0x1000001040) 0x2000010040 24)
+        (after (asks 0 (Malloc 24) ∷ asks 0 (Malloc 24) ∷ finds 0 (Free 0x1000000010) 0x2000010010 24 ∷ []) paired_first)
+        ≡ PutWord (record { frame = 3; index = 1 }) 0 ∷ ClearBox 0 ∷ ClearBox 1 ∷ [] }
+    ensures freed { (answer_to (finds 0 (Free 0x1000001040) 0x2000010040 24)
+        (after (asks 0 (Malloc 24) ∷ asks 0 (Malloc 24) ∷ finds 0 (Free 0x1000000010) 0x2000010010 24 ∷ []) paired_first)).freed
+        ≡ 0 ∷ 1 ∷ [] }
+    ensures shows { returns_show (asks 0 (Malloc 24) ∷ asks 0 (Malloc 24) ∷ finds 0 (Free 0x1000000010) 0x2000010010 24
+        ∷ finds 0 (Free 0x1000001040) 0x2000010040 24 ∷ []) paired_first
+        ≡ (labels.Gave 0 0 0x1000000 1 24 ∷ []) ∷ (labels.Gave 0 1 0x1000001 1 24 ∷ []) ∷ []
+        ∷ (labels.Freed 0 0 2 ∷ labels.Freed 0 1 3 ∷ []) ∷ [] }
+    ensures moved { (answer_to (finds 0 (Realloc 0x1000001040 30) 0x2000010040 24)
+        (after (asks 0 (Malloc 24) ∷ asks 0 (Malloc 24) ∷ finds 0 (Free 0x1000000010) 0x2000010010 24 ∷ []) paired_first)).shows
+        ≡ labels.Freed 0 0 2 ∷ labels.Moved 0 1 3 2 0x1000002 1 30 ∷ [] }
+    ensures double { resumes (asks 0 (Malloc 24) ∷ finds 0 (Free 0x1000000010) 0x2000010010 24 ∷ asks 0 (Free 0x1000000010) ∷ []) paired_first
+        ≡ resume.Return 0x1000000010 ∷ resume.Return 0 ∷ resume.Fault (faults.DoubleFree 0x1000000010 0 1) ∷ [] }
+    ensures report { reports (after (asks 0 (Malloc 24) ∷ finds 0 (Free 0x1000000010) 0x2000010010 24
+        ∷ asks 0 (End (faults.Access 13 0x1000000018)) ∷ []) paired_first)
+        ≡ record { pid = 0; hart = 0; fault = faults.Access 13 0x1000000018; place = places.Dead 0 (pos 8) 1 } ∷ [] }
+{}
+
+/// A child waits with its parent's object, and frees its own copy.
+pub fn child_frees_in_pairs()
+    ensures { (answer_to (finds 1 (Free 0x1000001040) 0x2000010040 24) (after (asks 0 (Malloc 24) ∷ asks 0 (Malloc 24)
+        ∷ finds 0 (Free 0x1000000010) 0x2000010010 24 ∷ asks 0 Fork ∷ []) paired_first)).shows
+        ≡ labels.Freed 1 0 2 ∷ labels.Freed 1 1 4 ∷ [] }
+{}
+
+/// On both heaps a free of 0 does nothing, and a realloc of 0 is a malloc.
+pub fn nothing_given_back()
+    ensures oscar { answers_of (after (asks 0 (Free 0) ∷ asks 0 (Realloc 0 24) ∷ []) (first 1))
+        ≡ answers.Nothing ∷ answers.Given 0 0x1000000010 ∷ [] }
+    ensures plain { answers_of (after (asks 0 (Free 0) ∷ asks 0 (Realloc 0 24) ∷ []) plain_first)
+        ≡ answers.Nothing ∷ answers.Placed 0x2000010010 ∷ [] }
+    ensures header { (beginning (asks 0 (Realloc 0 24)) (first 1)).begun ≡ begun.Planned }
+{}
+
+/// An image of one page takes 22 frames: its page, the stack's 16, and 5 tables, or 6 with four levels.
+/// The root is in frame 0, and the page follows its two tables; its words are its bytes, the lowest first.
 #[tactic(auto, unfolding(osc_paging::specs::TableChanges::link_all, osc_image::specs::Image::page_permits, osc_image::specs::Image::laid_byte))]
 pub fn image_of_one_page()
-    ensures frames { in_use one_page_opened.free ≡ 22 }
+    ensures frames { in_use (one_page_opened 3).free ≡ 22 }
+    ensures levels { in_use (one_page_opened 4).free ≡ 23 }
     ensures tables { word_opened 0 0 ∷ word_opened 1 0 ∷ word_opened 2 16 ∷ word_opened 2 17 ∷ word_opened 0 4 ∷ word_opened 4 0 ∷ word_opened 5 0xf0 ∷ []
         ≡ 0x401 ∷ 0x801 ∷ 0xcdb ∷ 0 ∷ 0x1001 ∷ 0x1401 ∷ 0x18d7 ∷ [] }
     ensures words { word_opened 3 0 ∷ word_opened 3 1 ∷ word_opened 3 2 ∷ word_opened 6 0 ∷ []
         ≡ 0x0010089300700513 ∷ 0x73 ∷ 0 ∷ 0 ∷ [] }
-    ensures start { open_start one_page one_page_opened
-        ≡ record { pid = 0; root = 0; regs = with_register no_registers 2 0x100100000; pc = 0x10000 } }
+    ensures start { open_start one_page (one_page_opened 4)
+        ≡ record { pid = 0; root = 0; regs = with_register no_registers 2 0x100100000; pc = 0x10000; levels = 4; frames = 24 } }
 {}
 
 /// On the plain heap objects lie at their canonical addresses, and what is freed is given again.

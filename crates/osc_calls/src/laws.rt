@@ -4,9 +4,11 @@ ghost use Rattle.std.specs.Prelude.{ℕ, ◌≡◌, List, [], ◌∷◌, codes, 
 ghost use Rattle.osc_word.specs.declared.calls.Fault.TheVariants as faults;
 ghost use Rattle.osc_calls.specs.declared.Place.TheVariants as places;
 ghost use Rattle.osc_calls.specs.Lines.{report_line};
-ghost use Rattle.osc_calls.specs.JobLaws.{ActionsDoJob};
-ghost use Rattle.osc_calls.specs.MarkLaws.{MarksNeverFall};
-ghost use Rattle.osc_calls.specs.CallLaws.{StoppedAreGone, RetriesKeep, RefusedCallsKeep};
+ghost use Rattle.osc_calls.specs.MoveLaws.{MovesDoJob};
+ghost use Rattle.osc_calls.specs.CallLaws.{StoppedAreGone, RetriesKeep, RefusedCallsKeep, RefusedByFirstReason, RefusedBegin, MallocsMoveNothing};
+ghost use Rattle.osc_calls.specs.ReasonLaws.{RefusedForCause};
+ghost use Rattle.osc_calls.specs.ObjectLaws.{GrownMarks, ObjectsGrow};
+ghost use Rattle.osc_calls.specs.LabelLaws.{LabelsCounted, ReturnsFree};
 
 /// The lines of reports.
 pub fn report_lines()
@@ -26,27 +28,66 @@ pub fn report_lines()
         ≡ codes "fault: process 0 hart 0 call 99 unknown" }
 {}
 
-/// The single actions of a job do to the words of memory what the job means.
-pub fn actions_do_job()
-    ensures { ActionsDoJob }
+/// The moves of a job do to the words of memory what the job means.
+#[tactic(auto, using(crate::proofs::MoveLawProofs::moves_do_job))]
+pub fn moves_do_job()
+    ensures { MovesDoJob }
 {}
 
 /// A hart whose thread was stopped leaves, whatever it asks, and nothing changes but that it is idle.
+#[tactic(auto, using(crate::proofs::CallLawProofs::stopped_are_gone))]
 pub fn stopped_are_gone()
     ensures { StoppedAreGone }
 {}
 
 /// A call that finds the journal full, or that is not ready, changes nothing.
+#[tactic(auto, using(crate::proofs::CallLawProofs::retries_keep))]
 pub fn retries_keep()
     ensures { RetriesKeep }
 {}
 
 /// The plan of a refused call changes nothing.
+#[tactic(auto, using(crate::proofs::RefusalLawProofs::refused_calls_keep))]
 pub fn refused_calls_keep()
     ensures { RefusedCallsKeep }
 {}
 
-/// No plan lowers the mark of a process.
-pub fn marks_never_fall()
-    ensures { MarksNeverFall }
+/// A call is refused exactly by the first reason that holds of it, and a fork or a share that is refused
+/// takes no box.
+#[tactic(auto, using(crate::proofs::ReasonLawProofs::refused_by_first_reason, crate::proofs::ReasonLawProofs::refused_begin))]
+pub fn refused_by_first_reason()
+    ensures plans { RefusedByFirstReason }
+    ensures begins { RefusedBegin }
+{}
+
+/// Each refusal of a fork, a spawn or a share has its cause, and the first of them is answered.
+#[tactic(auto, using(crate::proofs::CauseLawProofs::refused_for_cause))]
+pub fn refused_for_cause()
+    ensures { RefusedForCause }
+{}
+
+/// A malloc moves nothing.
+#[tactic(auto, using(crate::proofs::ReasonLawProofs::mallocs_move_nothing))]
+pub fn mallocs_move_nothing()
+    ensures { MallocsMoveNothing }
+{}
+
+/// Objects only grow: what was granted stays, whoever died stays dead, and no mark falls.
+#[tactic(auto, using(crate::proofs::ObjectStepProofs::objects_grow, crate::proofs::ObjectLawProofs::grown_marks))]
+pub fn objects_grow()
+    ensures grow { ObjectsGrow }
+    ensures marks { GrownMarks }
+{}
+
+/// A step shows one thing at most, but the return of a flush shows each object that it freed.
+#[tactic(auto, using(crate::proofs::LabelLawProofs::labels_counted))]
+pub fn labels_counted()
+    ensures { LabelsCounted }
+{}
+
+/// A call that gives blocks back frees all that waited, shows them first, and nothing waits any more; any
+/// other call frees nothing.
+#[tactic(auto, using(crate::proofs::LabelLawProofs::returns_free))]
+pub fn returns_free()
+    ensures { ReturnsFree }
 {}

@@ -96,21 +96,3 @@ pub enum HartRecord {
     /// Its process has ended, and it has not taken the kernel since.
     Stopped { pid: u32 },
 }
-
-/// Whether a process has ended. A status is 0 to 63, or 70 for an end by a fault.
-#[derive(Clone, Copy, Debug, PartialEq, Eq)]
-pub enum Life {
-    Lives,
-    /// The call of its end is not finished.
-    Ends(u8),
-    Ended(u8),
-}
-
-/// One action of a job.
-#[derive(Clone, Copy, Debug, PartialEq, Eq)]
-pub enum JobAction {
-    Load(WordAt),
-    Store { at: WordAt, value: u64 },
-    /// The box of this hart is taken, changed and given.
-    ChangeBox { hart: u32 },
-}

@@ -1,5 +1,5 @@
 -- Mapped pages, and the tables that they lie in, are counted page by page.
-use Rattle.std.proofs.Common.{ℕ, zero, suc, ◌≡◌, ◌+◌, ◌-◌, ◌/◌, ◌<◌, ◌≤◌, ◌==◌, arith, refl, sym, ◌∙◌, ap, Bool, true, false, cond, ◌||◌, List, [], ◌∷◌, ◌++◌, length, map, append-nil, None}
+use Rattle.std.proofs.Common.{ℕ, zero, suc, ◌≡◌, ◌+◌, ◌-◌, ◌/◌, ◌<◌, ◌≤◌, ◌==◌, arith, refl, sym, ◌∙◌, ap, Bool, true, false, cond, not, ◌⊎◌, inl, inr, ◌||◌, List, [], ◌∷◌, ◌++◌, length, map, append-nil, None}
 use Rattle.std.proofs.Math.Nat.{div-mul-le_self}
 use Rattle.std.proofs.lemmas.Nat.{le-div}
 use Rattle.std.specs.Prelude.{if◌then◌else◌, is_some}
@@ -11,7 +11,9 @@ use Rattle.std.proofs.lemmas.List.Folds.{list_any-append}
 use Rattle.osc_sv39.specs.declared.entries.Access.{Access}
 use Rattle.osc_sv39.specs.declared.entries.Access.TheVariants.{Fetch, Load, Store}
 use Rattle.osc_image.specs.Image.{Image, is_mapped, page_permits, bits_at, page_limit, pages_below, pages, NoneFrom}
-use Rattle.osc_image.specs.Frames.{different, tables_of, needed_frames}
+use Rattle.osc_image.specs.Frames.{different, stack_pages, tables_below, needed_frames}
+use Rattle.osc_sv39.specs.Walk.{piece, IsLevels}
+use Rattle.osc_elf.specs.TableNumbers.{tables_of}
 use Rattle.osc_elf.proofs.Ranges.{range-more, filter-none, range-split}
 
 pub page_limit-is : page_limit ≡ 1048576
@@ -167,8 +169,73 @@ unfolding pages_below
 pages-apart image size table small =
     tables-apart (is_mapped image) size table 0 page_limit (λ page below. small page (omega (arith, page_limit-is)))
 
-pub needed-is : (image : Image) → needed_frames image
+-- ---- the numbers of tables
+directories : (used : List ℕ) → map (piece 2) used ≡ tables_of 262144 used
+unfolding tables_of
+directories [] = refl
+directories (page ∷ used) =
+    let same : page / 512 / 512 ≡ page / 262144 = omega arith in rw (same, directories used) refl
+
+-- ---- with four levels all lie in one table of the level below the root
+abbrev is_other : ℕ → Bool
+is_other table = not (table == 0)
+
+one-more : (y : ℕ) (ys : List ℕ) → list_any is_other (y ∷ ys) ≡ false → (y ≡ 0) × (list_any is_other ys ≡ false)
+one-more y ys none = grind (arith, nat_tests)
+
+joined : (y : ℕ) (ys : List ℕ) → (y ≡ 0) × (list_any is_other ys ≡ false) → (list_any is_other ys ≡ false → different (0 ∷ ys) ≡ 1)
+    → different (0 ∷ y ∷ ys) ≡ 1
+joined y ys (zeroth, none) on = rw zeroth (omega (arith, on none))
+
+one-table : (tables : List ℕ) → list_any is_other tables ≡ false → different (0 ∷ tables) ≡ 1
+one-table [] none = refl
+one-table (y ∷ ys) none = joined y ys (one-more y ys none) (λ rest. one-table ys rest)
+
+low-tables : (q : ℕ → Bool) (a n : ℕ) → a + n ≤ 134217728
+    → list_any is_other (map (piece 3) (filter q (range_with_len a n))) ≡ false
+low-tables q a zero low = refl
+low-tables q a (suc n) low = low-more (q a) (low-tables q (a + 1) n (omega arith))
+  where
+    low-more : (b : Bool) → list_any is_other (map (piece 3) (filter q (range_with_len (a + 1) n))) ≡ false
+        → list_any is_other (map (piece 3) (cond b (a ∷ filter q (range_with_len (a + 1) n)) (filter q (range_with_len (a + 1) n)))) ≡ false
+    low-more true none = let z : a / 512 / 512 / 512 ≡ 0 = omega arith in rw (z, none) refl
+    low-more false none = none
+
+top-tables : (image : Image) → different (map (piece 3) (stack_pages ++ pages image)) ≡ 1
+unfolding pages_below
+top-tables image =
+    one-table (map (piece 3) (range_with_len 1048817 15 ++ pages image)) (low-tables (is_mapped image) 0 page_limit (omega (arith, page_limit-is)))
+
+-- ---- the frames that an image needs
+lower-tables : (image : Image) → tables_below 2 (stack_pages ++ pages image)
+    ≡ 2 + (different (tables_of 262144 (pages image)) + different (tables_of 512 (pages image)))
+unfolding tables_below tables_of
+lower-tables image =
+    rw (directories (pages image), pages-apart image 262144 4 (λ page low. omega arith), pages-apart image 512 2048 (λ page low. omega arith))
+    (omega arith)
+
+upper-tables : (image : Image) → tables_below 3 (stack_pages ++ pages image)
+    ≡ 3 + (different (tables_of 262144 (pages image)) + different (tables_of 512 (pages image)))
+unfolding tables_below
+upper-tables image = rw (top-tables image, lower-tables image) (omega arith)
+
+needed-3 : (image : Image) → needed_frames 3 image
     ≡ length (pages image) + 16 + 3 + (different (tables_of 262144 (pages image)) + different (tables_of 512 (pages image)))
-unfolding needed_frames tables_of
-needed-is image =
-    rw (pages-apart image 262144 4 (λ page low. omega arith), pages-apart image 512 2048 (λ page low. omega arith)) (omega arith)
+unfolding needed_frames
+needed-3 image = rw (lower-tables image) (omega arith)
+
+needed-4 : (image : Image) → needed_frames 4 image
+    ≡ length (pages image) + 16 + 4 + (different (tables_of 262144 (pages image)) + different (tables_of 512 (pages image)))
+unfolding needed_frames
+needed-4 image = rw (upper-tables image) (omega arith)
+
+pub needed-is : (levels : ℕ) (image : Image) → IsLevels levels → needed_frames levels image
+    ≡ length (pages image) + 16 + levels + (different (tables_of 262144 (pages image)) + different (tables_of 512 (pages image)))
+needed-is levels image l = of (which l)
+  where
+    which : IsLevels levels → (levels ≡ 3) ⊎ (levels ≡ 4)
+    which l = grind arith
+    of : (levels ≡ 3) ⊎ (levels ≡ 4) → needed_frames levels image
+        ≡ length (pages image) + 16 + levels + (different (tables_of 262144 (pages image)) + different (tables_of 512 (pages image)))
+    of (inl three) = rw three (needed-3 image)
+    of (inr four) = rw four (needed-4 image)

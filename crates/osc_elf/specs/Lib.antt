@@ -8,3 +8,4 @@ pub mod Refused
 pub mod Pieces
 pub mod Painting
 pub mod Tables
+pub mod TableNumbers

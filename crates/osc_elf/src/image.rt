@@ -7,6 +7,8 @@ ghost use Rattle.osc_image.specs.Image as image;
 ghost use Rattle.osc_image.specs.Frames as frames;
 ghost use Rattle.osc_image.specs.Form as form;
 ghost use Rattle.osc_elf.specs.Segments.{all_shown};
+ghost use Rattle.osc_elf.specs.TableNumbers.{tables_of};
+ghost use Rattle.osc_sv39.specs.Walk.{IsLevels};
 
 use crate::permitted::{last_end, permitted};
 use crate::pieces::{advance, borders, owned_byte, owners, piece_at};
@@ -229,7 +231,7 @@ impl Image {
     /// How many tables the mapped pages have that are for so many pages each.
     fn tables(&self, size: u64) -> u64
         requires { 0 < size }
-        ensures count { result ≡ frames.different (frames.tables_of size (image.pages self.now)) }
+        ensures count { result ≡ frames.different (tables_of size (image.pages self.now)) }
         ensures bound { result ≤ 1048576 }
     {
         let mut count = 0;
@@ -244,13 +246,15 @@ impl Image {
         count
     }
 
-    /// How many frames a machine needs to boot it: its pages, those of the stack, and the page tables
-    /// of both.
-    pub fn needed_frames(&self) -> u64
-        ensures { result ≡ frames.needed_frames self.now }
+    /// How many frames a machine with 3 or 4 levels of page tables needs to boot it: its pages, those
+    /// of the stack, and the page tables of both.
+    pub fn needed_frames(&self, levels: u8) -> u64
+        requires { IsLevels levels }
+        ensures { result ≡ frames.needed_frames levels self.now }
     {
-        // the root, and the two tables of the stack, which has none in common with an image
-        let others = 3;
+        // the root and the two tables of the stack, which has none of those in common with an image;
+        // the fourth level has one table over both
+        let others = u64::from(levels);
         let tables = self.tables(DIRECTORY_PAGES) + self.tables(LEAF_TABLE_PAGES);
         self.page_count() + STACK_FRAMES + others + tables
     }

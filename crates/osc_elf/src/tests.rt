@@ -253,7 +253,7 @@ fn image_of_gnu_ld(rt: HostRuntime) -> Result<(), Fail> {
     let image = read_image(rt.alloc(), &GNU_IMAGE)?;
     assert_eq!(rt; image.entry(), 0x10120);
     assert_eq!(rt; image.page_count(), 2);
-    assert_eq!(rt; image.needed_frames(), 23);
+    assert_eq!(rt; image.needed_frames(3), 23);
     for (page, expected) in [
         (0xf, None),
         (0x10, bits(0xa)),
@@ -364,7 +364,8 @@ fn needed_frames(rt: HostRuntime) -> Result<(), Fail> {
         let file = one_segment(rt.alloc(), size)?;
         let image = read_image(rt.alloc(), &file)?;
         assert_eq!(rt; image.page_count(), pages, "{size} bytes");
-        assert_eq!(rt; image.needed_frames(), frames, "{size} bytes");
+        assert_eq!(rt; image.needed_frames(3), frames, "{size} bytes");
+        assert_eq!(rt; image.needed_frames(4), frames + 1, "{size} bytes");
     }
     Ok(())
 }

@@ -1,5 +1,10 @@
-pub mod HartLaws
+pub mod Seams
+pub mod Hands
+pub mod Carry
 pub mod WhoAsks
+pub mod Quiet
 pub mod Nearer
-pub mod Within
+pub mod Ranges
+pub mod Shows
 pub mod Conditional
+pub mod UnderWay

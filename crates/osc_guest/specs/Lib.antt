@@ -1,11 +1,15 @@
 pub mod User
 pub mod Accesses
+pub mod Asks
 pub mod Looking
-pub mod Calls
 pub mod Instructions
 pub mod Orders
-pub mod Asks
 pub mod Told
 pub mod Fits
+pub mod Hands
+pub mod Carry
+pub mod Ranges
 pub mod Laws
+pub mod AccessLaws
 pub mod Worked
+pub mod WorkedOrders

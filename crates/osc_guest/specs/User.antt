@@ -11,12 +11,12 @@ use Rattle.osc_guest.specs.declared.places.Place.{Place}
 use Rattle.osc_guest.specs.declared.places.Place.TheVariants as at
 
 pub record UserHart : Type 0 where
-  -- how many frames the machine has, and the level of the topmost page table
-  pub frames : ℕ
-  pub top : ℕ
-  -- the thread; of an idle hart it means nothing
+  -- the thread, with the levels of its page tables and the frames of the machine; of an idle hart they
+  -- mean nothing
   pub pid : ℕ
   pub root : ℕ
+  pub levels : ℕ
+  pub frames : ℕ
   pub regs : List ℕ
   pub pc : ℕ
   pub reservation : Option Reservation
@@ -35,13 +35,13 @@ pub record Answered : Type 0 where
   pub choice : Option Choice
   pub touch : Option Touch
 
--- an idle hart of a machine with so many frames; `top` is the level of the topmost table
-abbrev pub user_idle : ℕ → ℕ → UserHart
-user_idle frames top = record {
-  frames = frames;
-  top = top;
+-- a hart that never had a thread
+abbrev pub user_idle : UserHart
+user_idle = record {
   pid = 0;
   root = 0;
+  levels = 0;
+  frames = 0;
   regs = replicate 32 0;
   pc = 0;
   reservation = None;
@@ -53,18 +53,20 @@ user_idle frames top = record {
 }
 
 -- the hart with another thread, without a reservation
-abbrev pub with_thread : Start → UserHart → UserHart
-with_thread start h = record h {
+abbrev pub starting : Start → UserHart → UserHart
+starting start h = record h {
   pid = start.pid;
   root = start.root;
+  levels = start.levels;
+  frames = start.frames;
   regs = start.regs;
   pc = start.pc;
   reservation = None;
 }
 
 -- a hart that runs a thread from its beginning
-abbrev pub user_begin : ℕ → ℕ → Start → UserHart
-user_begin frames top start = record (with_thread start (user_idle frames top)) { place = at.Run }
+abbrev pub user_begin : Start → UserHart
+user_begin start = record (starting start user_idle) { place = at.Run }
 
 -- the box as the hart leaves it
 abbrev pub box_or_new : Option BoxState → BoxState
@@ -75,8 +77,8 @@ abbrev pub handed : UserHart → BoxState
 handed h = box_or_new h.held
 
 -- the hart once its box was taken out of its hand
-abbrev pub emptied : UserHart → UserHart
-emptied h = record h { held = None }
+abbrev pub without_box : UserHart → UserHart
+without_box h = record h { held = None }
 
 -- the cache of the box that it holds
 abbrev pub cache_of : UserHart → List (Option CacheEntry)

@@ -1,30 +1,34 @@
 -- Instructions worked through, step by step.
 use Rattle.std.specs.Prelude.{ℕ, zero, suc, ◌≡◌, Bool, true, false, Option, Some, None, List, [], ◌∷◌, ◌++◌, take, replicate}
 use Rattle.std.specs.Option.{option_to_list}
-use Rattle.osc_word.specs.declared.orders.Order.{Order}
-use Rattle.osc_word.specs.declared.orders.Order.TheVariants.{Empty, Start, Stop, Over}
+use Rattle.osc_word.specs.declared.orders.Start as start
+use Rattle.osc_word.specs.declared.orders.Order.TheVariants.{Empty}
 use Rattle.osc_word.specs.declared.job_list.WordAt.{WordAt}
 use Rattle.osc_word.specs.declared.calls.Request.TheVariants as request
 use Rattle.osc_word.specs.declared.calls.Call.TheVariants as call
 use Rattle.osc_word.specs.declared.calls.Fault.TheVariants as fault
-use Rattle.osc_word.specs.declared.calls.Resume.TheVariants as resume
 use Rattle.osc_word.specs.declared.steps.Choice.{Choice}
 use Rattle.osc_word.specs.declared.steps.Choice.TheVariants.{Plain, Success, Fail}
 use Rattle.osc_word.specs.declared.steps.Access.TheVariants as labelled
 use Rattle.osc_word.specs.Registers.{register, with_register}
+use Rattle.osc_word.specs.Environment.{call_of}
 use Rattle.osc_sv39.specs.declared.entries.Mapping.{Mapping}
 use Rattle.osc_rv.specs.declared.instr.AmoOp.TheVariants.{Add}
 use Rattle.osc_rv.specs.declared.instr.Width.TheVariants.{W}
+use Rattle.osc_rv.specs.Instr.{instr_of}
 use Rattle.osc_paging.specs.Boxes.{BoxState, no_entries, filled}
-use Rattle.osc_guest.specs.declared.accesses.DataAccess.TheVariants as datum
+use Rattle.osc_guest.specs.declared.accesses.MemoryAccess.{MemoryAccess}
+use Rattle.osc_guest.specs.declared.accesses.What.TheVariants as does
 use Rattle.osc_guest.specs.declared.accesses.Reservation.{Reservation}
 use Rattle.osc_guest.specs.declared.accesses.Touch.{Touch}
 use Rattle.osc_guest.specs.declared.places.Ask.{Ask}
 use Rattle.osc_guest.specs.declared.places.Ask.TheVariants as asks
-use Rattle.osc_guest.specs.User.{UserHart, goes, handed, user_begin, user_idle}
-use Rattle.osc_guest.specs.Accesses.{word_stored}
+use Rattle.osc_guest.specs.User.{UserHart, handed, user_begin}
+use Rattle.osc_guest.specs.Accesses.{store_at, word_stored}
 use Rattle.osc_guest.specs.Asks.{ask}
-use Rattle.osc_guest.specs.Told.{Told, Box, Busy, Word, Gate, OldVersion, Resumed, Done, told}
+use Rattle.osc_guest.specs.Looking.{reached, looked_up, walked}
+use Rattle.osc_guest.specs.Instructions.{executed}
+use Rattle.osc_guest.specs.Told.{Told, Box, Word, Gate, OldVersion, Done, told}
 
 -- what a hart asks for, answer by answer
 unfoldable pub asks_of : List Told → UserHart → List Ask
@@ -72,12 +76,19 @@ seen_of h = record {
 }
 
 -- ---- the setting
--- a thread of process 0 at 0x10000 with a0 and t0 set, in a machine of 64 frames and three levels
+-- a thread of process 0 in a machine of 64 frames; mostly at 0x10000, with three levels, a0 and t0 set
 abbrev pub registers : ℕ → ℕ → List ℕ
 registers a0 t0 = with_register (with_register (replicate 32 0) 10 a0) 5 t0
 
+abbrev pub start_at : ℕ → ℕ → List ℕ → start.Start
+start_at levels pc regs = record { pid = 0; root = 0; regs = regs; pc = pc; levels = levels; frames = 64 }
+
+-- a thread without arguments
+abbrev pub at_pc : ℕ → ℕ → UserHart
+at_pc levels pc = user_begin (start_at levels pc (replicate 32 0))
+
 abbrev pub thread : ℕ → ℕ → UserHart
-thread a0 t0 = user_begin 64 2 (record { pid = 0; root = 0; regs = registers a0 t0; pc = 0x10000 })
+thread a0 t0 = user_begin (start_at 3 0x10000 (registers a0 t0))
 
 -- the code's page stands in frame 4; the data's page, that of 0x1000000010, in frame 22
 abbrev pub code_mapping : Mapping
@@ -106,14 +117,14 @@ abbrev pub addi_word : ℕ
 addi_word = 0x0010089300700513
 
 -- accesses of the thread
-abbrev pub fetch_at : ℕ → Bool → Touch
-fetch_at pc done = record { pid = 0; address = pc; width = 4; kind = labelled.Fetch; done = done }
+abbrev pub fetched_at : ℕ → Bool → Touch
+fetched_at pc done = record { pid = 0; address = pc; width = 4; kind = labelled.Fetch; done = done }
 
-abbrev pub load_at : Bool → Touch
-load_at done = record { pid = 0; address = 0x1000000010; width = 8; kind = labelled.Load; done = done }
+abbrev pub loaded_at : Bool → Touch
+loaded_at done = record { pid = 0; address = 0x1000000010; width = 8; kind = labelled.Load; done = done }
 
-abbrev pub store_at : Bool → Touch
-store_at done = record { pid = 0; address = 0x1000000010; width = 8; kind = labelled.Store; done = done }
+abbrev pub stored_at : Bool → Touch
+stored_at done = record { pid = 0; address = 0x1000000010; width = 8; kind = labelled.Store; done = done }
 
 -- ---- addi a0, x0, 7, then addi a7, x0, 1
 abbrev pub hit_answers : List Told
@@ -143,7 +154,7 @@ miss_answers = Box empty_box ∷ Word 0x401 ∷ Word 0x801 ∷ Word 0x10DB ∷ W
 pub record AddiMisses : Type 0 where
   pub actions : asks_of miss_answers (thread 0 0) ≡ asks.TakeBox ∷ asks.Load (word_of_frame 0 0) ∷ asks.Load (word_of_frame 1 0)
       ∷ asks.Load (word_of_frame 2 16) ∷ asks.Load (word_of_frame 4 0) ∷ asks.GiveBox ∷ []
-  pub touches : touches_of miss_answers (thread 0 0) ≡ fetch_at 0x10000 true ∷ []
+  pub touches : touches_of miss_answers (thread 0 0) ≡ fetched_at 0x10000 true ∷ []
   pub after : seen_of (after_all miss_answers (thread 0 0)) ≡ record {
     a0 = 7;
     a1 = 0;
@@ -157,6 +168,17 @@ pub record AddiMisses : Type 0 where
   }
   pub box : handed (after_all (take 5 miss_answers) (thread 0 0)) ≡ code_box
 
+-- with four levels of tables, in frames 1, 2 and 3 below the root, it takes one action more
+abbrev pub four_answers : List Told
+four_answers = Box empty_box ∷ Word 0x401 ∷ Word 0x801 ∷ Word 0xC01 ∷ Word 0x10DB ∷ Word addi_word ∷ Done ∷ []
+
+pub record AddiMissesFour : Type 0 where
+  pub actions : asks_of four_answers (at_pc 4 0x10000) ≡ asks.TakeBox ∷ asks.Load (word_of_frame 0 0) ∷ asks.Load (word_of_frame 1 0)
+      ∷ asks.Load (word_of_frame 2 0) ∷ asks.Load (word_of_frame 3 16) ∷ asks.Load (word_of_frame 4 0) ∷ asks.GiveBox ∷ []
+  pub choices : choices_of four_answers (at_pc 4 0x10000) ≡ Plain ∷ []
+  pub touches : touches_of four_answers (at_pc 4 0x10000) ≡ fetched_at 0x10000 true ∷ []
+  pub box : handed (after_all (take 6 four_answers) (at_pc 4 0x10000)) ≡ code_box
+
 -- ---- sd t0, 0(a0), where the fetch hits and the data's page is not in the cache
 abbrev pub sd_answers : List Told
 sd_answers = Box code_box ∷ Word 0x00553023 ∷ Word 0x401 ∷ Word 0x801 ∷ Word 0x58D7 ∷ Gate 5 ∷ Word 77 ∷ Done ∷ Done ∷ Done ∷ []
@@ -167,7 +189,7 @@ pub record SdMisses : Type 0 where
       ∷ asks.TakeGate 22 None ∷ asks.Load (word_of_frame 22 2) ∷ asks.Store (word_of_frame 22 2) 9 ∷ asks.OpenGate 22 6
       ∷ asks.GiveBox ∷ []
   pub choices : choices_of sd_answers (thread 0x1000000010 9) ≡ Plain ∷ []
-  pub touches : touches_of sd_answers (thread 0x1000000010 9) ≡ fetch_at 0x10000 true ∷ store_at true ∷ []
+  pub touches : touches_of sd_answers (thread 0x1000000010 9) ≡ fetched_at 0x10000 true ∷ stored_at true ∷ []
   pub after : seen_of (after_all sd_answers (thread 0x1000000010 9)) ≡ record {
     a0 = 0x1000000010;
     a1 = 0;
@@ -187,7 +209,7 @@ ld_answers = Box full_box ∷ Word 0x00053303 ∷ Word 9 ∷ Done ∷ []
 pub record LdHits : Type 0 where
   pub actions : asks_of ld_answers (thread 0x1000000010 0) ≡ asks.TakeBox ∷ asks.Load (word_of_frame 4 0)
       ∷ asks.Load (word_of_frame 22 2) ∷ asks.GiveBox ∷ []
-  pub touches : touches_of ld_answers (thread 0x1000000010 0) ≡ fetch_at 0x10000 true ∷ load_at true ∷ []
+  pub touches : touches_of ld_answers (thread 0x1000000010 0) ≡ fetched_at 0x10000 true ∷ loaded_at true ∷ []
   pub after : seen_of (after_all ld_answers (thread 0x1000000010 0)) ≡ record {
     a0 = 0x1000000010;
     a1 = 0;
@@ -209,7 +231,7 @@ pub record LdFaults : Type 0 where
   pub actions : asks_of lost_answers (thread 0x1000000010 0) ≡ asks.TakeBox ∷ asks.Load (word_of_frame 4 0)
       ∷ asks.Load (word_of_frame 0 64) ∷ asks.GiveBox ∷ []
   pub choices : choices_of lost_answers (thread 0x1000000010 0) ≡ Plain ∷ []
-  pub touches : touches_of lost_answers (thread 0x1000000010 0) ≡ fetch_at 0x10000 true ∷ load_at false ∷ []
+  pub touches : touches_of lost_answers (thread 0x1000000010 0) ≡ fetched_at 0x10000 true ∷ loaded_at false ∷ []
   pub after : seen_of (after_all lost_answers (thread 0x1000000010 0)) ≡ record {
     a0 = 0x1000000010;
     a1 = 0;
@@ -227,7 +249,7 @@ abbrev pub beyond_answers : List Told
 beyond_answers = Box code_box ∷ Word 0x00053303 ∷ Word 0x10001 ∷ []
 
 pub record LinkBeyondFaults : Type 0 where
-  pub touches : touches_of beyond_answers (thread 0x1000000010 0) ≡ fetch_at 0x10000 true ∷ load_at false ∷ []
+  pub touches : touches_of beyond_answers (thread 0x1000000010 0) ≡ fetched_at 0x10000 true ∷ loaded_at false ∷ []
 
 -- ---- lr.d a1, (a0), then sc.d a1, t0, (a0)
 abbrev pub lr_answers : List Told
@@ -257,7 +279,7 @@ pub record ScSucceeds : Type 0 where
       ∷ asks.TakeGate 22 (Some 5) ∷ asks.Load (word_of_frame 22 2) ∷ asks.Store (word_of_frame 22 2) 9 ∷ asks.OpenGate 22 6
       ∷ asks.GiveBox ∷ []
   pub choices : choices_of sc_answers (after_all lr_answers (thread 0x1000000010 9)) ≡ Success ∷ []
-  pub touches : touches_of sc_answers (after_all lr_answers (thread 0x1000000010 9)) ≡ fetch_at 0x10004 true ∷ store_at true ∷ []
+  pub touches : touches_of sc_answers (after_all lr_answers (thread 0x1000000010 9)) ≡ fetched_at 0x10004 true ∷ stored_at true ∷ []
   pub after : seen_of (after_all sc_answers (after_all lr_answers (thread 0x1000000010 9))) ≡ record {
     a0 = 0x1000000010;
     a1 = 0;
@@ -278,7 +300,7 @@ pub record ScOutdated : Type 0 where
   pub actions : asks_of outdated_answers (after_all lr_answers (thread 0x1000000010 9)) ≡ asks.TakeBox
       ∷ asks.Load (word_of_frame 4 0) ∷ asks.TakeGate 22 (Some 5) ∷ asks.GiveBox ∷ []
   pub choices : choices_of outdated_answers (after_all lr_answers (thread 0x1000000010 9)) ≡ Fail ∷ []
-  pub touches : touches_of outdated_answers (after_all lr_answers (thread 0x1000000010 9)) ≡ fetch_at 0x10004 true ∷ []
+  pub touches : touches_of outdated_answers (after_all lr_answers (thread 0x1000000010 9)) ≡ fetched_at 0x10004 true ∷ []
   pub after : seen_of (after_all outdated_answers (after_all lr_answers (thread 0x1000000010 9))) ≡ record {
     a0 = 0x1000000010;
     a1 = 1;
@@ -310,108 +332,25 @@ pub record ScUnreserved : Type 0 where
     next = asks.TakeBox;
   }
 
--- ---- ecall, with 1 in a7 and 7 in a0
-abbrev pub exiting : UserHart
-exiting = user_begin 64 2 (record { pid = 0; root = 0; regs = with_register (with_register (replicate 32 0) 17 1) 10 7; pc = 0x10008 })
-
-abbrev pub ecall_answers : List Told
-ecall_answers = Box code_box ∷ Word 0x73 ∷ Done ∷ []
-
--- a call commits in the kernel, and the pc is that of the ecall
-pub record EcallAsks : Type 0 where
-  pub actions : asks_of ecall_answers exiting ≡ asks.TakeBox ∷ asks.Load (word_of_frame 4 1) ∷ asks.GiveBox ∷ []
-  pub choices : choices_of ecall_answers exiting ≡ []
-  pub after : seen_of (after_all ecall_answers exiting) ≡ record {
-    a0 = 7;
-    a1 = 0;
-    t1 = 0;
-    pc = 0x10008;
-    retired = 0;
-    hits = 1;
-    walks = 0;
-    reserved = None;
-    next = asks.Kernel (request.Call (call.Exit 7));
-  }
-  pub returned : seen_of (after_all (Resumed (resume.Return 3) ∷ []) (after_all ecall_answers exiting)) ≡ record {
-    a0 = 3;
-    a1 = 0;
-    t1 = 0;
-    pc = 0x1000C;
-    retired = 0;
-    hits = 1;
-    walks = 0;
-    reserved = None;
-    next = asks.TakeBox;
-  }
-  pub again : told (after_all ecall_answers exiting) (Resumed resume.Again) ≡ goes (after_all ecall_answers exiting)
-  pub faulted : ask (told (after_all ecall_answers exiting) (Resumed (resume.Fault (fault.UnknownCall 1)))).hart
-      ≡ asks.Kernel (request.Call (call.End (fault.UnknownCall 1)))
-
--- ---- the first pc
-abbrev pub first_answers : List Told
-first_answers = Box code_box ∷ Done ∷ []
-
-abbrev pub at_pc : ℕ → UserHart
-at_pc pc = user_begin 64 2 (record { pid = 0; root = 0; regs = replicate 32 0; pc = pc })
-
-abbrev pub first_seen : ℕ → ℕ → Seen
-first_seen cause pc = record {
-  a0 = 0;
-  a1 = 0;
-  t1 = 0;
-  pc = pc;
-  retired = 1;
-  hits = 0;
-  walks = 0;
-  reserved = None;
-  next = asks.Kernel (request.Call (call.End (fault.Access cause pc)));
-}
-
--- one that is not divisible by 4, or not canonical, is found in the taking of the box
-pub record FirstPcFaults : Type 0 where
-  pub actions : asks_of first_answers (at_pc 0x10002) ≡ asks.TakeBox ∷ asks.GiveBox ∷ []
-  pub touches : touches_of first_answers (at_pc 0x10002) ≡ []
-  pub misaligned : seen_of (after_all first_answers (at_pc 0x10002)) ≡ first_seen 0 0x10002
-  pub beyond_touches : touches_of first_answers (at_pc 0x4000000000) ≡ fetch_at 0x4000000000 false ∷ []
-  pub beyond : seen_of (after_all first_answers (at_pc 0x4000000000)) ≡ first_seen 12 0x4000000000
-
--- ---- orders
-abbrev pub ordered : Order → BoxState
-ordered order = record code_box { order = order }
-
--- Stop: the order is carried out, the hart reports itself idle and is
-pub record StopObeyed : Type 0 where
-  pub actions : asks_of (Box (ordered Stop) ∷ Done ∷ Resumed resume.Idle ∷ Busy ∷ []) (thread 0 0)
-      ≡ asks.TakeBox ∷ asks.GiveBox ∷ asks.Kernel request.Idle ∷ asks.TakeBox ∷ []
-  pub box : handed (after_all (Box (ordered Stop) ∷ []) (thread 0 0)) ≡ code_box
-  pub reserved : (after_all (Box (ordered Stop) ∷ []) (after_all lr_answers (thread 0x1000000010 9))).reservation ≡ None
-
--- Over: the hart is at rest once it gave its box
-pub record OverObeyed : Type 0 where
-  pub running : asks_of (Box (ordered Over) ∷ Done ∷ Busy ∷ []) (thread 0 0) ≡ asks.TakeBox ∷ asks.GiveBox ∷ asks.Rest ∷ []
-  pub idle : asks_of (Box (ordered Over) ∷ Done ∷ Busy ∷ []) (user_idle 64 2) ≡ asks.TakeBox ∷ asks.GiveBox ∷ asks.Rest ∷ []
-
--- Start: the idle hart runs the thread at once
-abbrev pub start_order : Order
-start_order = Start (record { pid = 0; root = 0; regs = registers 5 0; pc = 0x10000 })
-
-pub record StartObeyed : Type 0 where
-  pub actions : asks_of (Box (ordered start_order) ∷ Word addi_word ∷ Done ∷ []) (user_idle 64 2)
-      ≡ asks.TakeBox ∷ asks.Load (word_of_frame 4 0) ∷ asks.GiveBox ∷ []
-  pub box : handed (after_all (Box (ordered start_order) ∷ []) (user_idle 64 2)) ≡ code_box
-  pub idle : asks_of (Box code_box ∷ Done ∷ Busy ∷ []) (user_idle 64 2) ≡ asks.TakeBox ∷ asks.GiveBox ∷ asks.TakeBox ∷ []
-
 -- ---- parts of words
+abbrev pub add_one : ℕ → MemoryAccess
+add_one address = record { address = address; width = 4; rd = 0; what = does.Amo Add W 1 }
+
 -- so many times amoadd.w of 1 at the low half of a word
 unfoldable pub added : ℕ → ℕ → ℕ
 added zero word = word
-added (suc times) word = added times (word_stored (datum.Amo Add W 0 0x1000000010 1) word)
+added (suc times) word = added times (word_stored (add_one 0x1000000010) word)
 
 pub record PartsKept : Type 0 where
   -- the upper half stays, also where the lower one wraps round
   pub amo : added 4000 0xFFFFFFFF00000000 ≡ 0xFFFFFFFF00000FA0
   pub wrapped : added 1 0x01234567FFFFFFFF ≡ 0x0123456700000000
-  pub upper : word_stored (datum.Amo Add W 0 0x1000000014 1) 0x01234567FFFFFFFF ≡ 0x01234568FFFFFFFF
-  pub byte : word_stored (datum.Store 1 0x1000000013 0xAA) 0x8877665544332211 ≡ 0x88776655AA332211
-  pub half : word_stored (datum.Store 2 0x1000000016 0xAABB) 0x8877665544332211 ≡ 0xAABB665544332211
-  pub whole : word_stored (datum.Store 8 0x1000000010 7) 0x8877665544332211 ≡ 7
+  pub upper : word_stored (add_one 0x1000000014) 0x01234567FFFFFFFF ≡ 0x01234568FFFFFFFF
+  pub byte : word_stored (store_at 1 0x1000000013 0xAA) 0x8877665544332211 ≡ 0x88776655AA332211
+  pub half : word_stored (store_at 2 0x1000000016 0xAABB) 0x8877665544332211 ≡ 0xAABB665544332211
+  pub whole : word_stored (store_at 8 0x1000000010 7) 0x8877665544332211 ≡ 7
+
+-- what the examples compute with
+unfoldable pub worked : Unit {0}
+unfolding ask told reached looked_up walked executed call_of no_entries instr_of asks_of choices_of touches_of after_all added
+worked = tt

@@ -3,49 +3,34 @@
 use osc_rv::{AmoOp, LoadKind, Width};
 use osc_word::Access;
 
-/// What an instruction does with data in memory. `rd` is the register that gets the result.
+/// What an access does with the bytes at its address.
 #[derive(Clone, Copy, Debug, PartialEq, Eq)]
-pub enum DataAccess {
-    Load {
-        rd: u8,
-        kind: LoadKind,
-        address: u64,
-    },
-    /// `width` bytes from the address on get `value`.
-    Store {
-        width: u8,
-        address: u64,
-        value: u64,
-    },
+pub enum What {
+    /// They are the instruction at the pc.
+    Fetch,
+    Load(LoadKind),
+    /// They get this value, which they can hold.
+    Store(u64),
     /// An atomic memory operation.
     Amo {
         op: AmoOp,
         width: Width,
-        rd: u8,
-        address: u64,
         operand: u64,
     },
     /// A load-reserved.
-    Lr {
-        width: Width,
-        rd: u8,
-        address: u64,
-    },
-    /// A store-conditional of a value that its width can hold.
-    Sc {
-        width: Width,
-        rd: u8,
-        address: u64,
-        value: u64,
-    },
+    Lr(Width),
+    /// A store-conditional of this value, which they can hold.
+    Sc(u64),
 }
 
-/// Why an address is translated.
+/// An access to the `width` bytes from an address on. Register `rd` gets the result; it is 0 where
+/// there is none.
 #[derive(Clone, Copy, Debug, PartialEq, Eq)]
-pub enum Purpose {
-    /// The instruction at the pc is fetched.
-    Fetch,
-    Data(DataAccess),
+pub struct MemoryAccess {
+    pub address: u64,
+    pub width: u8,
+    pub rd: u8,
+    pub what: What,
 }
 
 /// What a load-reserved leaves for a store-conditional. The frame's gate had this version when the

@@ -1,12 +1,14 @@
 //! The laws of a hart. Each function does nothing: what it says is proved of the definitions.
 
+ghost use Rattle.osc_guest.specs.Hands.{HandsMove, HandKept};
+ghost use Rattle.osc_guest.specs.Carry.{SetsCarried, DoneShown, ElseLost, SetsReached};
+ghost use Rattle.osc_guest.specs.Ranges.{AsksIn, RangeKept, BeginsIn};
+ghost use Rattle.osc_guest.specs.AccessLaws.{AccessesKept, ReservationsKept, LoadsAligned, StoresAligned};
 ghost use Rattle.osc_guest.specs.Laws.{
   BusyKeeps,
   RestStays,
   GivingLooksAway,
-  SizesKept,
   ChoicesCounted,
-  HandKept,
   FaultsKeep,
   SilenceKeeps,
   TakersOfBox,
@@ -19,12 +21,7 @@ ghost use Rattle.osc_guest.specs.Laws.{
   Resters,
   AnswersMove,
   GivingMoves,
-  AsksIn,
-  RangeKept,
-  BeginsIn,
-  ReservationsKept,
-  LoadsAligned,
-  StoresAligned,
+  FittingChanges,
 };
 
 /// A hart that is told that the thing was taken stays as it was, a hart at rest asks for nothing,
@@ -35,15 +32,29 @@ pub fn stays_exactly()
     ensures giving { GivingLooksAway }
 {}
 
-/// No answer changes the sizes of the machine; the count of instructions rises with each choice;
-/// the hart holds its box exactly from the taking to the giving; and an access that faults, and a
-/// step at which nothing commits, change no register and not the pc.
+/// The count of instructions rises with each choice; and an access that faults, and a step at which
+/// nothing commits, change no register and not the pc.
 pub fn answers_keep()
-    ensures sizes { SizesKept }
     ensures counted { ChoicesCounted }
-    ensures hand { HandKept }
     ensures faults { FaultsKeep }
     ensures silence { SilenceKeeps }
+{}
+
+/// What a hart has in its hand, and which thread it runs, change only with the answers that say so;
+/// it holds its box exactly from the taking to the giving.
+pub fn hands_move()
+    ensures moves { HandsMove }
+    ensures agree { HandKept }
+{}
+
+/// What was true of each page and each table that a hart was told of stays true of all that it holds,
+/// reaches and walks through. It shows each access that it does, at a page that it reached, and
+/// whatever else it shows was not done.
+pub fn answers_carry()
+    ensures carries { SetsCarried }
+    ensures done { DoneShown }
+    ensures lost { ElseLost }
+    ensures reached { SetsReached }
 {}
 
 /// For each kind of action, the places at which a hart asks for it.
@@ -63,6 +74,7 @@ pub fn places_ask()
 pub fn answers_move()
     ensures nearer { AnswersMove }
     ensures given { GivingMoves }
+    ensures changed { FittingChanges }
 {}
 
 /// A hart asks only for frames that the machine has, since it tests the number of each frame that
@@ -73,10 +85,12 @@ pub fn asks_within()
     ensures begins { BeginsIn }
 {}
 
-/// A store-conditional is at the gate and stores only with the version of the reservation for it;
-/// and the alignment of loads and stores is that of the integer instructions.
+/// An access under way is aligned, and a fetch is that at the pc; a store-conditional is at the gate
+/// and stores only with the version of the reservation for it; and the alignment of loads and stores
+/// is that of the integer instructions.
 pub fn accesses_fit()
     ensures conditional { ReservationsKept }
     ensures loads { LoadsAligned }
     ensures stores { StoresAligned }
+    ensures under_way { AccessesKept }
 {}

@@ -8,9 +8,12 @@ mod laws;
 mod places;
 mod worked;
 
-pub use accesses::{DataAccess, Purpose, Reservation, Touch};
-pub use laws::{accesses_fit, answers_keep, answers_move, asks_within, places_ask, stays_exactly};
-pub use places::{After, Ask, Place};
+pub use accesses::{MemoryAccess, Reservation, Touch, What};
+pub use laws::{
+    accesses_fit, answers_carry, answers_keep, answers_move, asks_within, hands_move, places_ask,
+    stays_exactly,
+};
+pub use places::{After, Ask, Place, Stage};
 pub use worked::{
     addi_takes_three_or_six, ecall_asks, first_pc_faults, ld_takes_four, orders_obeyed, parts_kept,
     reservations_by_version, sd_takes_ten,

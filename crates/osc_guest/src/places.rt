@@ -1,6 +1,6 @@
 //! Where a hart stands between two of its actions, and what it asks for there.
 
-use crate::accesses::{DataAccess, Purpose};
+use crate::accesses::MemoryAccess;
 use osc_word::{Request, WordAt};
 
 /// How a hart goes on once it gave its box.
@@ -15,6 +15,21 @@ pub enum After {
     Rest,
 }
 
+/// How far an access is whose frame is known.
+#[derive(Clone, Copy, Debug, PartialEq, Eq)]
+pub enum Stage {
+    /// It loads the word that holds the instruction.
+    Fetch,
+    /// It loads the data word of a load.
+    Load,
+    /// It takes the gate of the data word's frame; a store-conditional only with this version.
+    TakeGate { only: Option<u64> },
+    /// It loads the data word under the gate, whose version it was told.
+    GatedLoad { version: u64 },
+    /// It stores the data word under the gate, where it found this word.
+    GatedStore { version: u64, found: u64 },
+}
+
 /// The action that is next. From the taking of its box to the giving a hart holds it.
 #[derive(Clone, Copy, Debug, PartialEq, Eq)]
 pub enum Place {
@@ -24,37 +39,15 @@ pub enum Place {
     Idle,
     /// It loads the entry for the address from a table of this level, 0 for a leaf table.
     Walk {
-        purpose: Purpose,
+        access: MemoryAccess,
         level: u8,
         table: u32,
     },
-    /// It loads the word that holds the instruction.
-    Fetch {
+    /// It makes an access in a frame.
+    Access {
+        access: MemoryAccess,
         frame: u32,
-    },
-    /// It loads the data word of a load.
-    Load {
-        access: DataAccess,
-        frame: u32,
-    },
-    /// It takes the gate of the data word's frame; a store-conditional only with this version.
-    TakeGate {
-        access: DataAccess,
-        frame: u32,
-        only: Option<u64>,
-    },
-    /// It loads the data word under the gate, whose version it was told.
-    GatedLoad {
-        access: DataAccess,
-        frame: u32,
-        version: u64,
-    },
-    /// It stores the data word under the gate, where it found this word.
-    GatedStore {
-        access: DataAccess,
-        frame: u32,
-        version: u64,
-        found: u64,
+        stage: Stage,
     },
     /// It opens the gate, which then has this version.
     OpenGate {

@@ -1,9 +1,12 @@
 -- The frames of memory that an image needs before its first instruction: its pages, the pages of its
 -- stack, and the page tables of all these. RISC-V Privileged manual, "Sv39: Page-Based 39-bit
--- Virtual-Memory System": a root table, below it one for each VPN[2], and below these one for each
--- pair VPN[2], VPN[1]. Where the stack stands is this project's own.
-use Rattle.std.specs.Prelude.{ℕ, ◌+◌, ◌/◌, ◌==◌, if◌then◌else◌, List, [], ◌∷◌, ◌++◌, length, map}
+-- Virtual-Memory System" and "Sv48": a root table, and below it one for each different number VPN of
+-- the topmost level, for each different pair of the two topmost ones, and so on. Where the stack stands
+-- is this project's own.
+use Rattle.std.specs.Prelude.{ℕ, zero, suc, ◌+◌, ◌-◌, ◌==◌, if◌then◌else◌, List, [], ◌∷◌, ◌++◌, length, map}
 use Rattle.std.specs.List.{list_any, range_with_len}
+use Rattle.osc_word.specs.AddressMap.{first_stack_page, stack_size}
+use Rattle.osc_sv39.specs.Walk.{piece}
 use Rattle.osc_image.specs.Image.{Image, pages}
 
 -- so many different numbers
@@ -13,15 +16,18 @@ different (x ∷ xs) = (if list_any (λ y. y == x) xs then 0 else 1) + different
 
 -- 0x1000F0 to 0x1000FF
 abbrev pub stack_pages : List ℕ
-stack_pages = range_with_len 1048816 16
+stack_pages = range_with_len first_stack_page stack_size
 
--- the numbers of the tables that pages lie in, where each table is for so many pages
-unfoldable pub tables_of : ℕ → List ℕ → List ℕ
-tables_of size used = map (λ page. page / size) used
+-- the tables over these pages from level 0 to the one below this level: the tables of a level stand
+-- each over one piece of the next
+unfoldable pub tables_below : ℕ → List ℕ → ℕ
+tables_below zero used = 0
+tables_below (suc level) used = different (map (piece (suc level)) used) + tables_below level used
 
--- VPN[2] is a page's number divided by 512 * 512, and VPN[2] with VPN[1] its number divided by 512
-abbrev pub table_count : List ℕ → ℕ
-table_count used = 1 + different (tables_of 262144 used) + different (tables_of 512 used)
+-- all tables over these pages, with the root
+abbrev pub table_count : ℕ → List ℕ → ℕ
+table_count levels used = 1 + tables_below (levels - 1) used
 
-unfoldable pub needed_frames : Image → ℕ
-needed_frames image = length (stack_pages ++ pages image) + table_count (stack_pages ++ pages image)
+-- with so many levels of page tables
+unfoldable pub needed_frames : ℕ → Image → ℕ
+needed_frames levels image = length (stack_pages ++ pages image) + table_count levels (stack_pages ++ pages image)

@@ -12,6 +12,7 @@ use crate::operation::{
     is_taken, op_of_imm, op_of_shift, op_of_shift_w, operate, store_value, store_width,
 };
 use osc_isa::IntDone;
+use osc_mul::mul_value;
 use osc_rv::{Field, ImmOp, Instr, RegOp, StoreKind, UpperOp};
 use osc_word::Regs;
 
@@ -185,6 +186,9 @@ pub fn int_step(instr: &Instr, regs: &Regs, pc: u64) -> IntDone
             amount,
         } => shifted(op_of_shift_w(op), rd, read(regs, rs1), amount.value(), pc),
         Instr::Op { op, rd, rs1, rs2 } => computed(op, rd, read(regs, rs1), read(regs, rs2), pc),
+        Instr::Mul { op, rd, rs1, rs2 } => {
+            set(rd, mul_value(op, read(regs, rs1), read(regs, rs2)), pc)
+        }
         Instr::Fence { .. } | Instr::FenceI { .. } => IntDone::Go { pc: next(pc) },
         Instr::Ecall => IntDone::Call,
         Instr::Ebreak => IntDone::Break,

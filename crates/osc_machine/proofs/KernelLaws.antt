@@ -1,6 +1,6 @@
 -- The kernel is in one place, and what a step does to it.
 use Rattle.std.proofs.Common.{ℕ, zero, suc, ◌≡◌, ◌+◌, ◌==◌, Bool, true, false, if◌then◌else◌, Option, Some, None, is_some, List, [], ◌∷◌, ◌++◌, map, option_map, slice_get, slice_set, arith, refl, sym, ap, subst, ◌∙◌, append_assoc}
-use Rattle.std.specs.Option.{option_to_list, option_or}
+use Rattle.std.specs.Option.{option_to_list, option_or, option_map_or}
 use Rattle.std.specs.List.{range_with_len}
 use Rattle.osc_word.specs.declared.calls.Request.{Request}
 use Rattle.osc_word.specs.declared.settings.Config.{Config}
@@ -10,27 +10,25 @@ use Rattle.osc_paging.specs.Boxes.{BoxState}
 use Rattle.osc_calls.specs.Kernel.{KernelState, next_job}
 use Rattle.osc_calls.specs.declared.Begun.{Begun}
 use Rattle.osc_calls.specs.declared.Begun.TheVariants as begun
-use Rattle.osc_calls.specs.declared.JobAction.{JobAction}
-use Rattle.osc_calls.specs.declared.JobAction.TheVariants as does_job
 use Rattle.osc_calls.specs.Begin.{begin}
 use Rattle.osc_calls.specs.Plan.{plan}
-use Rattle.osc_calls.specs.JobDone.{job_done}
-use Rattle.osc_calls.specs.Jobs.{action, Worked, On, worked}
-use Rattle.osc_calls.specs.Jobs as job
+use Rattle.osc_calls.specs.JobDone.{job_done, entries}
 use Rattle.osc_calls.specs.Finish.{finish}
-use Rattle.osc_guest.specs.User.{risen}
+use Rattle.osc_calls.specs.Moves.{Move, moves_of}
+use Rattle.osc_calls.specs.Moves as move
 use Rattle.osc_guest.specs.declared.places.Ask.{Ask}
 use Rattle.osc_guest.specs.declared.places.Ask.TheVariants as guest
 use Rattle.osc_guest.specs.Asks.{ask}
 use Rattle.osc_machine.specs.declared.HartAsk.{HartAsk}
 use Rattle.osc_machine.specs.declared.HartAsk.TheVariants as does
-use Rattle.osc_machine.specs.Parts.{Gate, CallPlace, Outside, TakingBoxes, FirstWord, SecondWord, Working, GivingBoxes, Returning, Return, HartState, State}
-use Rattle.osc_machine.specs.Turns.{HartTold, Box, Kernel, Word, Gate as ToldGate, OldVersion, Done, Turn, guest_ask, job_ask, ask_at, copied_entries, hart_told, gives, first_held, works, goes_on, begins, took_box, found_words, no_words, worked_on, call_told, told_with, outside_told, told_at, took_kernel as told_kernel, shelved}
-use Rattle.osc_machine.specs.Step.{Stepped, stays, turned, with_box, with_gate, box_at, is_shut, is_wanted, altered_box, took_gate, acted, step_of, step}
-use Rattle.osc_machine.specs.Step as stepping
-use Rattle.osc_machine.specs.Start.{first_hart}
+use Rattle.osc_machine.specs.Parts.{CallPlace, Outside, TakingBoxes, FirstWord, SecondWord, Working, GivingBoxes, Returning, Return, HartState, State}
+use Rattle.osc_machine.specs.Turns.{HartTold, Box, Kernel, Word, Gate as ToldGate, OldVersion, Done, Turn, guest_ask, copy_ask, move_ask, place_ask, hart_ask, hart_told, place_told, return_of, place_on, place_begun, first_held, found_words, kernel_taken, handed_kernel}
+use Rattle.osc_machine.specs.Step.{Stepped, stays, step}
+use Rattle.osc_machine.specs.Did.{Turned, Unmoved, InGuest, TakesKernel, TakesBox, TakesLastBox, FindsFirst, FindsSecond, Works, EndsJob, GivesBox, GivesKernel, Asks, Did, Stayed, TookBox, GaveBox, ChangedBox, Loaded, Stored, TookGate, FoundOldVersion, OpenedGate, TookKernel, GaveKernel}
+use Rattle.osc_machine.specs.Start.{started, first_hart}
 use Rattle.osc_machine.specs.Views.{held_kernel}
-use Rattle.osc_machine.specs.Laws.{is_in_call, HandAgrees, kernels_held, kernels, HasKernel, Moves, Same, Begins, Plans, EndsJob, Finishes, KernelMoves, KernelStays, KernelSeen, StartHasKernel}
+use Rattle.osc_machine.specs.Laws.{is_in_call, HandAgrees, kernels_held, kernels, HasKernel, Moves, Same, Begins, Plans, EndsJob as Ends, Finishes, KernelMoves, KernelStays, KernelSeen, StartHasKernel}
+use Rattle.osc_machine.proofs.RowLaws.{turns_by_row, steps_by_row}
 
 -- ---- lists of one kernel
 abbrev head_of : List KernelState → Option KernelState
@@ -118,103 +116,70 @@ abbrev Follows : Option KernelState → Option KernelState → Type 0
 Follows None now = now ≡ None
 Follows (Some k) now = (next : KernelState) × (now ≡ Some next) × Moves k next
 
-record Turned (o : Option KernelState) (x : HartState) : Type 0 where
+record Hand (o : Option KernelState) (x : HartState) : Type 0 where
   follows : Follows o x.kernel
   agrees : HandAgrees x
 
+follows_self : (o : Option KernelState) → Follows o o
+follows_self None = refl
+follows_self (Some k) = (k, refl, Same refl)
+
 -- a kernel is in the hand of a hart in a call
-record Holds (k : KernelState) (x : HartState) : Type 0 where
-  kernel : x.kernel ≡ Some k
-  calls : is_in_call x.place ≡ true
+holds_agrees : (k : KernelState) (x : HartState) → x.kernel ≡ Some k → is_in_call x.place ≡ true → HandAgrees x
+holds_agrees k x e i = ap is_some e ∙ sym i
 
-holds_agrees : (k : KernelState) (x : HartState) → Holds k x → HandAgrees x
-holds_agrees k x a = ap is_some a.kernel ∙ sym a.calls
+hand_to : (o : Option KernelState) (k next : KernelState) (x : HartState) → o ≡ Some k → Moves k next → x.kernel ≡ Some next → is_in_call x.place ≡ true → Hand o x
+hand_to o k next x e m f i =
+    record { follows = subst (λ z. Follows z x.kernel) (sym e) (next, f, m); agrees = holds_agrees next x f i }
 
-turned_to : (k next : KernelState) (x : HartState) → Moves k next → Holds next x → Turned (Some k) x
-turned_to k next x m a = record { follows = (next, a.kernel, m); agrees = holds_agrees next x a }
+on_in : (next : Option Job) (box : Option ℕ) (k : KernelState)
+    → is_in_call (option_map_or (λ job. Working (moves_of (entries k) job) None) next (option_map_or (λ b. GivingBoxes b) box (Returning (return_of false k)))) ≡ true
+on_in None None k = refl
+on_in None (Some box) k = refl
+on_in (Some job) box k = refl
 
--- ---- calls
-held_on : (box : Option ℕ) (k : KernelState) (h : HartState) → Holds k (gives box k h)
-held_on None k h = record { kernel = refl; calls = refl }
-held_on (Some box) k h = record { kernel = refl; calls = refl }
+on_in_call : (k : KernelState) (boxes : List (Option BoxState)) → is_in_call (place_on k boxes) ≡ true
+on_in_call k boxes = on_in (next_job k) (first_held boxes) k
 
-works_on : (next : Option Job) (k : KernelState) (h : HartState) → Holds k (works next k h)
-works_on None k h = held_on (first_held h.boxes) k h
-works_on (Some job) k h = record { kernel = refl; calls = refl }
+begun_in_call : (b : Begun) (k : KernelState) (boxes : List (Option BoxState)) → is_in_call (place_begun b k boxes) ≡ true
+begun_in_call begun.Again k boxes = refl
+begun_in_call begun.JournalFull k boxes = refl
+begun_in_call begun.Gone k boxes = refl
+begun_in_call begun.Boxes k boxes = refl
+begun_in_call (begun.Header first second) k boxes = refl
+begun_in_call begun.Planned k boxes = on_in_call k boxes
 
-going_on : (k : KernelState) (h : HartState) → Holds k (goes_on k h)
-going_on k h = works_on (next_job k) k h
-
-begun_on : (b : Begun) (k : KernelState) (h : HartState) → Holds k (begins b k h).hart
-begun_on begun.Again k h = record { kernel = refl; calls = refl }
-begun_on begun.JournalFull k h = record { kernel = refl; calls = refl }
-begun_on begun.Gone k h = record { kernel = refl; calls = refl }
-begun_on begun.Boxes k h = record { kernel = refl; calls = refl }
-begun_on (begun.Header first second) k h = record { kernel = refl; calls = refl }
-begun_on begun.Planned k h = going_on k (record h { calls = risen h.calls })
-
-unmoved : (k : KernelState) (h : HartState) → h.kernel ≡ Some k → is_in_call h.place ≡ true → Turned (Some k) h
-unmoved k h e i = turned_to k k h (Same refl) (record { kernel = e; calls = i })
-
-if_turned : (b : Bool) (k : KernelState) (x y : Turn) → Turned (Some k) x.hart → Turned (Some k) y.hart → Turned (Some k) (if b then x else y).hart
-if_turned true k x y p q = p
-if_turned false k x y p q = q
-
-took_on : (box : ℕ) (state : BoxState) (k : KernelState) (h : HartState) → h.kernel ≡ Some k → Turned (Some k) (took_box box state k h).hart
-took_on box state k h e =
-    if_turned (box + 1 == h.count) k _ _
-    (turned_to k (plan no_words k) _ (Plans no_words refl) (going_on (plan no_words k) _))
-    (turned_to k k _ (Same refl) (record { kernel = e; calls = refl }))
-
-work_done : (w : Worked) (k : KernelState) (h : HartState) → h.kernel ≡ Some k → Turned (Some k) (worked_on w k h).hart
-work_done (On way) k h e = turned_to k k _ (Same refl) (record { kernel = e; calls = refl })
-work_done (job.Done word) k h e = turned_to k (job_done word k) _ (EndsJob word refl) (going_on (job_done word k) h)
-
-call_turned : (p : CallPlace) (k : KernelState) (h : HartState) (t : HartTold) → h.kernel ≡ Some k → is_in_call h.place ≡ true → Turned (Some k) (call_told p k h t).hart
-call_turned (TakingBoxes box) k h (Box state) e i = took_on box state k h e
-call_turned (FirstWord first second) k h (Word word) e i = turned_to k k _ (Same refl) (record { kernel = e; calls = refl })
-call_turned (SecondWord found second) k h (Word word) e i =
-    turned_to k (plan (found_words found word) k) _ (Plans (found_words found word) refl) (going_on (plan (found_words found word) k) _)
-call_turned (Working way) k h (Word word) e i = work_done (worked way word) k _ e
-call_turned (Working way) k h Done e i = work_done (worked way 0) k _ e
-call_turned (GivingBoxes box) k h Done e i = turned_to k k _ (Same refl) (going_on k _)
-call_turned _ k h _ e i = unmoved k h e i
-
-with_turned : (o : Option KernelState) (h : HartState) (t : HartTold) → h.kernel ≡ o → is_some o ≡ true → is_in_call h.place ≡ true → Turned o (told_with o h t).hart
-with_turned None h t e s i = absurd (let x : ⊥ = grind (arith, s) in x)
-with_turned (Some k) h t e s i = call_turned h.place k h t e i
-
--- ---- outside
--- answers to what the guest part asks, but the kernel
+-- answers and actions that are not on the kernel
 abbrev IsPlain : HartTold → Type 0
 IsPlain (Kernel k) = ⊥
 IsPlain _ = Unit {0}
 
-same_hand : (o : Option KernelState) (h : HartState) → h.kernel ≡ o → is_some o ≡ false → Follows o h.kernel
-same_hand None h e s = e
-same_hand (Some k) h e s = absurd (let x : ⊥ = grind (arith, s) in x)
+abbrev IsPlainAsk : HartAsk → Type 0
+IsPlainAsk does.TakeKernel = ⊥
+IsPlainAsk does.GiveKernel = ⊥
+IsPlainAsk _ = Unit {0}
 
-outside_turned : (h : HartState) (t : HartTold) → IsPlain t → is_some h.kernel ≡ false → is_in_call h.place ≡ false → Turned h.kernel (outside_told h t).hart
-outside_turned h (Kernel k) p s i = absurd p
-outside_turned h _ p s i = record { follows = same_hand h.kernel h refl s; agrees = s ∙ sym i }
+returning_asks : (h : HartState) (return : Return) → h.place ≡ Returning return → hart_ask h ≡ does.GiveKernel
+unfolding hart_ask
+returning_asks h return e = ap (λ p. place_ask p h) e
 
--- ---- at each place: answers but the two that move the kernel
-abbrev IsUnmoving : CallPlace → HartTold → Type 0
-IsUnmoving Outside t = IsPlain t
-IsUnmoving (Returning return) t = ⊥
-IsUnmoving _ t = Unit {0}
-
-turned_at : (p : CallPlace) (h : HartState) (t : HartTold) → h.place ≡ p → is_some h.kernel ≡ is_in_call p → IsUnmoving p t → Turned h.kernel (told_at p h t).hart
-turned_at Outside h t e s u = outside_turned h t u s (ap is_in_call e)
-turned_at (TakingBoxes box) h t e s u = with_turned h.kernel h t refl s (ap is_in_call e)
-turned_at (FirstWord first second) h t e s u = with_turned h.kernel h t refl s (ap is_in_call e)
-turned_at (SecondWord found second) h t e s u = with_turned h.kernel h t refl s (ap is_in_call e)
-turned_at (Working way) h t e s u = with_turned h.kernel h t refl s (ap is_in_call e)
-turned_at (GivingBoxes box) h t e s u = with_turned h.kernel h t refl s (ap is_in_call e)
-turned_at (Returning return) h t e s u = absurd u
-
-hart_turned : (p : CallPlace) (h : HartState) (t : HartTold) → h.place ≡ p → HandAgrees h → IsUnmoving p t → Turned h.kernel (hart_told h t).hart
-hart_turned p h t e agrees u = subst (λ q. Turned h.kernel (told_at q h t).hart) (sym e) (turned_at p h t e (agrees ∙ ap is_in_call e) u)
+hand_of_row : (h : HartState) (t : HartTold) (turn : Turn) (a : HartAsk) → HandAgrees h → hart_ask h ≡ a → IsPlainAsk a → IsPlain t → Turned h t turn → Hand h.kernel turn.hart
+hand_of_row h t turn a g e p q (Unmoved i) = rw i (record { follows = follows_self h.kernel; agrees = g })
+hand_of_row h t turn a g e p q (InGuest said pl i) = rw i (record { follows = follows_self h.kernel; agrees = g })
+hand_of_row h t turn a g e p q (TakesKernel k asked pl tk wa i) = absurd (subst IsPlain tk q)
+hand_of_row h t turn a g e p q (TakesBox box state k pl ke tk last i) = rw i (hand_to h.kernel k k _ ke (Same refl) refl refl)
+hand_of_row h t turn a g e p q (TakesLastBox box state k pl ke tk last i) =
+    rw i (hand_to h.kernel k (plan (found_words 0 0) k).kernel _ ke (Plans (found_words 0 0) refl) refl
+    (on_in_call (plan (found_words 0 0) k).kernel (slice_set h.boxes box (Some state))))
+hand_of_row h t turn a g e p q (FindsFirst first second word k pl ke tk i) = rw i (hand_to h.kernel k k _ ke (Same refl) ke refl)
+hand_of_row h t turn a g e p q (FindsSecond found word second k pl ke tk i) =
+    rw i (hand_to h.kernel k (plan (found_words found word) k).kernel _ ke (Plans (found_words found word) refl) refl
+    (on_in_call (plan (found_words found word) k).kernel h.boxes))
+hand_of_row h t turn a g e p q (Works moves left read now word k pl ke pr i) = rw i (hand_to h.kernel k k _ ke (Same refl) refl refl)
+hand_of_row h t turn a g e p q (EndsJob moves read word k pl ke pr i) =
+    rw i (hand_to h.kernel k (job_done word k).kernel _ ke (Ends word refl) refl (on_in_call (job_done word k).kernel h.boxes))
+hand_of_row h t turn a g e p q (GivesBox box k pl ke tk i) = rw i (hand_to h.kernel k k _ ke (Same refl) refl (on_in_call k (slice_set h.boxes box None)))
+hand_of_row h t turn a g e p q (GivesKernel return pl tk i) = absurd (subst IsPlainAsk (sym e ∙ returning_asks h return pl) p)
 
 -- ---- the whole state, where one hart turns
 record KernelNext (home : Option KernelState) (harts : List HartState) (k : KernelState) : Type 0 where
@@ -236,7 +201,7 @@ next_in (Some k0) now home before after k f e =
 
 -- the hart turns with its hand
 own_turns : (home : Option KernelState) (harts : List HartState) (n : ℕ) (h x : HartState) (k : KernelState) → slice_get harts n ≡ Some h → AllAgree harts
-    → option_to_list home ++ kernels_held harts ≡ k ∷ [] → Turned h.kernel x → KernelNext home (slice_set harts n x) k
+    → option_to_list home ++ kernels_held harts ≡ k ∷ [] → Hand h.kernel x → KernelNext home (slice_set harts n x) k
 own_turns home harts n h x k e all one t =
     let a = around harts n h e in
     let next = next_in h.kernel x.kernel (option_to_list home) a.before a.after k t.follows (sym (ap (λ ks. option_to_list home ++ ks) a.now) ∙ one) in record {
@@ -249,65 +214,11 @@ own_turns home harts n h x k e all one t =
 made : (x : State) (k : KernelState) → KernelNext x.kernel x.harts k → KernelMoves x k
 made x k q = record { next = q.next; has = record { one = q.one; in_hand = q.all }; moves = q.moves }
 
-still : (s : State) (k : KernelState) → HasKernel s k → KernelMoves s k
-still s k has = record { next = k; has = has; moves = Same refl }
-
--- hart n, which is h and stands at this place, in a state that has the kernel
-record At (s : State) (n : ℕ) (h : HartState) (k : KernelState) (p : CallPlace) : Type 0 where
-  here : slice_get s.harts n ≡ Some h
-  has : HasKernel s k
-  place : h.place ≡ p
-
-agrees_at : (s : State) (n : ℕ) (h : HartState) (k : KernelState) (p : CallPlace) → At s n h k p → HandAgrees h
-agrees_at s n h k p a = a.has.in_hand n h a.here
-
-own_step : (s : State) (n : ℕ) (h : HartState) (k : KernelState) (p : CallPlace) (t : HartTold) → At s n h k p → IsUnmoving p t
+own_step : (s : State) (n : ℕ) (h : HartState) (k : KernelState) (a : HartAsk) (t : HartTold) → HasKernel s k → Asks s n h a → IsPlainAsk a → IsPlain t
     → KernelNext s.kernel (slice_set s.harts n (hart_told h t).hart) k
-own_step s n h k p t a u =
-    own_turns s.kernel s.harts n h (hart_told h t).hart k a.here a.has.in_hand a.has.one
-    (hart_turned p h t a.place (agrees_at s n h k p a) u)
-
--- at this place only the kernel itself moves the kernel
-abbrev Unmoving : CallPlace → Type 0
-Unmoving p = (t : HartTold) → IsPlain t → IsUnmoving p t
-
-box_moves : (s : State) (n : ℕ) (h : HartState) (k : KernelState) (p : CallPlace) (box : ℕ) (o : Option BoxState) → Unmoving p → At s n h k p → KernelMoves (stepping.took_box s n h box o).state k
-box_moves s n h k p box None u a = still s k a.has
-box_moves s n h k p box (Some state) u a = made _ k (own_step s n h k p (Box state) a (u (Box state) tt))
-
-altered_moves : (s : State) (n : ℕ) (h : HartState) (k : KernelState) (p : CallPlace) (box : ℕ) (o : Option BoxState) → Unmoving p → At s n h k p → KernelMoves (altered_box s n h box o).state k
-altered_moves s n h k p box None u a = still s k a.has
-altered_moves s n h k p box (Some state) u a = made _ k (own_step s n h k p Done a (u Done tt))
-
-if_moves : (k : KernelState) (b : Bool) (x y : Stepped) → KernelMoves x.state k → KernelMoves y.state k → KernelMoves (if b then x else y).state k
-if_moves k true x y p q = p
-if_moves k false x y p q = q
-
-gate_moves : (s : State) (n : ℕ) (h : HartState) (k : KernelState) (p : CallPlace) (frame : ℕ) (only : Option ℕ) (o : Option Gate) → Unmoving p → At s n h k p → KernelMoves (took_gate s n h frame only o).state k
-gate_moves s n h k p frame only None u a = still s k a.has
-gate_moves s n h k p frame only (Some gate) u a =
-    if_moves k (is_shut gate) _ _ (still s k a.has)
-    (if_moves k (is_wanted only gate.version) _ _
-    (made _ k (own_step s n h k p (ToldGate gate.version) a (u (ToldGate gate.version) tt)))
-    (made _ k (own_step s n h k p OldVersion a (u OldVersion tt))))
-
--- all actions but those on the kernel
-abbrev IsPlainAsk : HartAsk → Type 0
-IsPlainAsk does.TakeKernel = ⊥
-IsPlainAsk does.GiveKernel = ⊥
-IsPlainAsk _ = Unit {0}
-
-plain_moves : (s : State) (n : ℕ) (h : HartState) (k : KernelState) (p : CallPlace) (ask : HartAsk) → IsPlainAsk ask → Unmoving p → At s n h k p → KernelMoves (acted s n h ask).state k
-plain_moves s n h k p (does.TakeBox box) i u a = box_moves s n h k p box (box_at s box) u a
-plain_moves s n h k p (does.GiveBox box) i u a = made _ k (own_step s n h k p Done a (u Done tt))
-plain_moves s n h k p (does.ChangeBox box) i u a = altered_moves s n h k p box (box_at s box) u a
-plain_moves s n h k p (does.Load place) i u a = made _ k (own_step s n h k p (Word _) a (u (Word _) tt))
-plain_moves s n h k p (does.Store place value) i u a = made _ k (own_step s n h k p Done a (u Done tt))
-plain_moves s n h k p (does.TakeGate frame only) i u a = gate_moves s n h k p frame only (slice_get s.gates frame) u a
-plain_moves s n h k p (does.OpenGate frame version) i u a = made _ k (own_step s n h k p Done a (u Done tt))
-plain_moves s n h k p does.Rest i u a = still s k a.has
-plain_moves s n h k p does.TakeKernel i u a = absurd i
-plain_moves s n h k p does.GiveKernel i u a = absurd i
+own_step s n h k a t has asks p q =
+    own_turns s.kernel s.harts n h (hart_told h t).hart k asks.here has.in_hand has.one
+    (hand_of_row h t (hart_told h t) a (has.in_hand n h asks.here) asks.asks p q (turns_by_row h t))
 
 -- ---- the kernel is taken
 no_hand : (o : Option KernelState) → is_some o ≡ false → o ≡ None
@@ -323,95 +234,151 @@ takes_list before after k0 k next mine now m w e =
       ap (or_first k) listed,
     )
 
-took_hand : (h : HartState) (asked : Request) (k0 : KernelState) → h.place ≡ Outside → ask h.user ≡ guest.Kernel asked
-    → Holds (begin h.number h.user.regs h.user.pc asked k0).kernel (hart_told h (Kernel k0)).hart
-took_hand h asked k0 e a =
-    let b = begin h.number h.user.regs h.user.pc asked k0 in
-    subst (λ q. Holds b.kernel (told_at q h (Kernel k0)).hart) (sym e)
-    (subst (λ (q : Ask). Holds b.kernel (told_kernel q k0 h).hart) (sym a) (begun_on b.begun b.kernel h))
+-- who asks for the kernel is outside a call, and his guest part asks for it
+record Wants (h : HartState) : Type 0 where
+  outside : h.place ≡ Outside
+  asked : Request
+  wants : ask h.user ≡ guest.Kernel asked
 
-take_moves : (s : State) (n : ℕ) (h : HartState) (k : KernelState) (asked : Request) (o : Option KernelState) → s.kernel ≡ o → ask h.user ≡ guest.Kernel asked → At s n h k Outside
-    → KernelMoves (stepping.took_kernel s n h o).state k
-take_moves s n h k asked None e q a = still s k a.has
-take_moves s n h k asked (Some k0) e q a =
+guest_wants : (n : ℕ) (a : Ask) → guest_ask n a ≡ does.TakeKernel → (asked : Request) × (a ≡ guest.Kernel asked)
+guest_wants n (guest.Kernel asked) e = (asked, refl)
+guest_wants n guest.TakeBox e = absurd (let b : ⊥ = grind (arith, e) in b)
+guest_wants n (guest.Load place) e = absurd (let b : ⊥ = grind (arith, e) in b)
+guest_wants n (guest.TakeGate frame only) e = absurd (let b : ⊥ = grind (arith, e) in b)
+guest_wants n (guest.Store place value) e = absurd (let b : ⊥ = grind (arith, e) in b)
+guest_wants n (guest.OpenGate frame version) e = absurd (let b : ⊥ = grind (arith, e) in b)
+guest_wants n guest.GiveBox e = absurd (let b : ⊥ = grind (arith, e) in b)
+guest_wants n guest.Rest e = absurd (let b : ⊥ = grind (arith, e) in b)
+
+pub move_plain : (moves : List Move) (read : Option ℕ) → IsPlainAsk (move_ask moves read)
+move_plain [] read = tt
+move_plain (move.Put at value ∷ moves) read = tt
+move_plain (move.Copy from to ∷ moves) None = tt
+move_plain (move.Copy from to ∷ moves) (Some word) = tt
+move_plain (move.CopyLow from to bytes ∷ moves) None = tt
+move_plain (move.CopyLow from to bytes ∷ moves) (Some word) = tt
+move_plain (move.ChangeBox box ∷ moves) read = tt
+move_plain (move.Out at ∷ moves) read = tt
+
+wants_at : (p : CallPlace) (h : HartState) → h.place ≡ p → place_ask p h ≡ does.TakeKernel → Wants h
+wants_at Outside h e a = let g = guest_wants h.number (ask h.user) a in record { outside = e; asked = g.0; wants = g.1 }
+wants_at (TakingBoxes box) h e a = absurd (let b : ⊥ = grind (arith, a) in b)
+wants_at (FirstWord first second) h e a = absurd (let b : ⊥ = grind (arith, a) in b)
+wants_at (SecondWord found second) h e a = absurd (let b : ⊥ = grind (arith, a) in b)
+wants_at (Working moves read) h e a = absurd (subst IsPlainAsk a (move_plain moves read))
+wants_at (GivingBoxes box) h e a = absurd (let b : ⊥ = grind (arith, a) in b)
+wants_at (Returning return) h e a = absurd (let b : ⊥ = grind (arith, a) in b)
+
+wants_of : (h : HartState) → hart_ask h ≡ does.TakeKernel → Wants h
+unfolding hart_ask
+wants_of h a = wants_at h.place h refl a
+
+record Took (h : HartState) (asked : Request) (k0 : KernelState) (x : HartState) : Type 0 where
+  kernel : x.kernel ≡ Some (begin h.number h.user.regs h.user.pc asked k0).kernel
+  calls : is_in_call x.place ≡ true
+
+took_hand : (h : HartState) (k0 : KernelState) (w : Wants h) → Took h w.asked k0 (hart_told h (Kernel k0)).hart
+unfolding hart_told
+took_hand h k0 w =
+    let b = begin h.number h.user.regs h.user.pc w.asked k0 in
+    subst (λ p. Took h w.asked k0 (place_told p h.kernel h (Kernel k0)).hart) (sym w.outside)
+    (subst (λ (q : Ask). Took h w.asked k0 (kernel_taken q k0 h).hart) (sym w.wants)
+    (record { kernel = refl; calls = begun_in_call b.begun b.kernel h.boxes }))
+
+take_moves : (s : State) (n : ℕ) (h : HartState) (k k0 : KernelState) → HasKernel s k → Asks s n h does.TakeKernel → s.kernel ≡ Some k0
+    → KernelNext None (slice_set s.harts n (hart_told h (Kernel k0)).hart) k
+take_moves s n h k k0 has asks e =
     let x = (hart_told h (Kernel k0)).hart in
-    let next = (begin h.number h.user.regs h.user.pc asked k0).kernel in
-    let w = took_hand h asked k0 a.place q in
-    let r = around s.harts n h a.here in
-    let mine = no_hand h.kernel (agrees_at s n h k Outside a ∙ ap is_in_call a.place) in
-    let both = takes_list r.before r.after k0 k next h.kernel x.kernel mine w.kernel
-    (sym (ap (λ z. option_to_list z ++ (r.before ++ (option_to_list h.kernel ++ r.after))) e) ∙ sym (ap (λ ks. option_to_list s.kernel ++ ks) r.now) ∙ a.has.one) in
-    made _ k (record {
+    let w = wants_of h asks.asks in
+    let next = (begin h.number h.user.regs h.user.pc w.asked k0).kernel in
+    let took = took_hand h k0 w in
+    let r = around s.harts n h asks.here in
+    let mine = no_hand h.kernel (has.in_hand n h asks.here ∙ ap is_in_call w.outside) in
+    let both = takes_list r.before r.after k0 k next h.kernel x.kernel mine took.kernel
+    (sym (ap (λ z. option_to_list z ++ (r.before ++ (option_to_list h.kernel ++ r.after))) e) ∙ sym (ap (λ ks. option_to_list s.kernel ++ ks) r.now) ∙ has.one) in
+    record {
       next = next;
       one = r.later x ∙ both.0;
-      all = agrees_set s.harts n x a.has.in_hand (holds_agrees next x w);
-      moves = subst (λ z. Moves z next) both.1 (Begins h.number h.user.regs h.user.pc asked refl);
-    })
+      all = agrees_set s.harts n x has.in_hand (holds_agrees next x took.kernel took.calls);
+      moves = subst (λ z. Moves z next) both.1 (Begins h.number h.user.regs h.user.pc w.asked refl);
+    }
 
 -- ---- the kernel is given
-abbrev handed_of : Option KernelState → Option KernelState
-handed_of z = option_map (λ (y : KernelState). shelved (finish y).kernel) z
+guest_keeps : (n : ℕ) (a : Ask) → guest_ask n a ≡ does.GiveKernel → ⊥
+guest_keeps n (guest.Kernel asked) e = grind (arith, e)
+guest_keeps n guest.TakeBox e = grind (arith, e)
+guest_keeps n (guest.Load place) e = grind (arith, e)
+guest_keeps n (guest.TakeGate frame only) e = grind (arith, e)
+guest_keeps n (guest.Store place value) e = grind (arith, e)
+guest_keeps n (guest.OpenGate frame version) e = grind (arith, e)
+guest_keeps n guest.GiveBox e = grind (arith, e)
+guest_keeps n guest.Rest e = grind (arith, e)
+
+returns_at : (p : CallPlace) (h : HartState) → place_ask p h ≡ does.GiveKernel → (return : Return) × (p ≡ Returning return)
+returns_at (Returning return) h a = (return, refl)
+returns_at Outside h a = absurd (guest_keeps h.number (ask h.user) a)
+returns_at (TakingBoxes box) h a = absurd (let b : ⊥ = grind (arith, a) in b)
+returns_at (FirstWord first second) h a = absurd (let b : ⊥ = grind (arith, a) in b)
+returns_at (SecondWord found second) h a = absurd (let b : ⊥ = grind (arith, a) in b)
+returns_at (Working moves read) h a = absurd (subst IsPlainAsk a (move_plain moves read))
+returns_at (GivingBoxes box) h a = absurd (let b : ⊥ = grind (arith, a) in b)
+
+pub returns_of : (h : HartState) → hart_ask h ≡ does.GiveKernel → (return : Return) × (h.place ≡ Returning return)
+unfolding hart_ask
+returns_of h a = returns_at h.place h a
 
 record Emptied (x : HartState) : Type 0 where
   no_kernel : x.kernel ≡ None
   outside : x.place ≡ Outside
 
 gave_hand : (h : HartState) (return : Return) → h.place ≡ Returning return → Emptied (hart_told h Done).hart
+unfolding hart_told
 gave_hand h return e =
-    subst (λ q. Emptied (told_at q h Done).hart) (sym e) (record { no_kernel = refl; outside = refl })
+    subst (λ q. Emptied (place_told q h.kernel h Done).hart) (sym e) (record { no_kernel = refl; outside = refl })
 
-give_moves : (s : State) (n : ℕ) (h : HartState) (k : KernelState) (return : Return) (o : Option KernelState) → h.kernel ≡ o → is_some o ≡ true → At s n h k (Returning return)
-    → KernelMoves (acted s n h does.GiveKernel).state k
-give_moves s n h k return None e i a = absurd (let x : ⊥ = grind (arith, i) in x)
-give_moves s n h k return (Some k0) e i a =
+handed_is : (h : HartState) (k0 : KernelState) → h.kernel ≡ Some k0 → handed_kernel h ≡ Some (finish k0).kernel
+unfolding handed_kernel
+handed_is h k0 e = ap (λ z. option_map (λ (y : KernelState). (finish y).kernel) z) e
+
+give_moves : (s : State) (n : ℕ) (h : HartState) (k : KernelState) (o : Option KernelState) → h.kernel ≡ o → is_some o ≡ true → HasKernel s k → Asks s n h does.GiveKernel
+    → KernelNext (handed_kernel h) (slice_set s.harts n (hart_told h Done).hart) k
+give_moves s n h k None e i has asks = absurd (let x : ⊥ = grind (arith, i) in x)
+give_moves s n h k (Some k0) e i has asks =
     let x = (hart_told h Done).hart in
-    let w = gave_hand h return a.place in
-    let r = around s.harts n h a.here in
+    let g = returns_of h asks.asks in
+    let w = gave_hand h g.0 g.1 in
+    let r = around s.harts n h asks.here in
     let o = only (option_to_list s.kernel) r.before r.after k0 k
-    (sym (ap (λ z. option_to_list s.kernel ++ (r.before ++ (option_to_list z ++ r.after))) e) ∙ sym (ap (λ ks. option_to_list s.kernel ++ ks) r.now) ∙ a.has.one) in
-    made _ k (record {
-      next = shelved (finish k0).kernel;
-      one = ap (λ z. option_to_list (handed_of z) ++ kernels_held (slice_set s.harts n x)) e
-          ∙ ap (λ ks. (shelved (finish k0).kernel) ∷ ks) (r.later x
+    (sym (ap (λ z. option_to_list s.kernel ++ (r.before ++ (option_to_list z ++ r.after))) e) ∙ sym (ap (λ ks. option_to_list s.kernel ++ ks) r.now) ∙ has.one) in
+    record {
+      next = (finish k0).kernel;
+      one = ap (λ z. option_to_list z ++ kernels_held (slice_set s.harts n x)) (handed_is h k0 e)
+          ∙ ap (λ ks. (finish k0).kernel ∷ ks) (r.later x
           ∙ ap (λ z. r.before ++ (option_to_list z ++ r.after)) w.no_kernel
           ∙ ap (λ b. b ++ r.after) o.no_before ∙ o.no_after);
-      all = agrees_set s.harts n x a.has.in_hand (ap is_some w.no_kernel ∙ sym (ap is_in_call w.outside));
-      moves = subst (λ z. Moves z (shelved (finish k0).kernel)) o.same (Finishes refl);
-    })
+      all = agrees_set s.harts n x has.in_hand (ap is_some w.no_kernel ∙ sym (ap is_in_call w.outside));
+      moves = subst (λ z. Moves z (finish k0).kernel) o.same (Finishes refl);
+    }
 
--- ---- each place
-outside_moves : (s : State) (n : ℕ) (h : HartState) (k : KernelState) (g : Ask) → ask h.user ≡ g → At s n h k Outside → KernelMoves (acted s n h (guest_ask h.number g)).state k
-outside_moves s n h k (guest.Kernel asked) e a = take_moves s n h k asked s.kernel refl e a
-outside_moves s n h k guest.TakeBox e a = plain_moves s n h k Outside (does.TakeBox h.number) tt (λ t i. i) a
-outside_moves s n h k (guest.Load place) e a = plain_moves s n h k Outside (does.Load place) tt (λ t i. i) a
-outside_moves s n h k (guest.TakeGate frame only) e a = plain_moves s n h k Outside (does.TakeGate frame only) tt (λ t i. i) a
-outside_moves s n h k (guest.Store place value) e a = plain_moves s n h k Outside (does.Store place value) tt (λ t i. i) a
-outside_moves s n h k (guest.OpenGate frame version) e a = plain_moves s n h k Outside (does.OpenGate frame version) tt (λ t i. i) a
-outside_moves s n h k guest.GiveBox e a = plain_moves s n h k Outside (does.GiveBox h.number) tt (λ t i. i) a
-outside_moves s n h k guest.Rest e a = plain_moves s n h k Outside does.Rest tt (λ t i. i) a
+in_hand_at : (s : State) (n : ℕ) (h : HartState) (k : KernelState) → HasKernel s k → Asks s n h does.GiveKernel → is_some h.kernel ≡ true
+in_hand_at s n h k has asks = has.in_hand n h asks.here ∙ ap is_in_call (returns_of h asks.asks).1
 
-job_plain : (j : JobAction) → IsPlainAsk (job_ask j)
-job_plain (does_job.Load place) = tt
-job_plain (does_job.Store place value) = tt
-job_plain (does_job.ChangeBox hart) = tt
-
-place_moves : (s : State) (n : ℕ) (h : HartState) (k : KernelState) (p : CallPlace) → At s n h k p → KernelMoves (acted s n h (ask_at p h)).state k
-place_moves s n h k Outside a = outside_moves s n h k (ask h.user) refl a
-place_moves s n h k (TakingBoxes box) a = plain_moves s n h k (TakingBoxes box) (does.TakeBox box) tt (λ t i. tt) a
-place_moves s n h k (FirstWord first second) a = plain_moves s n h k (FirstWord first second) (does.Load first) tt (λ t i. tt) a
-place_moves s n h k (SecondWord found second) a = plain_moves s n h k (SecondWord found second) (does.Load second) tt (λ t i. tt) a
-place_moves s n h k (Working way) a =
-    let j = action (copied_entries h.kernel) way in plain_moves s n h k (Working way) (job_ask j) (job_plain j) (λ t i. tt) a
-place_moves s n h k (GivingBoxes box) a = plain_moves s n h k (GivingBoxes box) (does.GiveBox box) tt (λ t i. tt) a
-place_moves s n h k (Returning return) a =
-    give_moves s n h k return h.kernel refl (agrees_at s n h k (Returning return) a ∙ ap is_in_call a.place) a
-
-step_moves : (s : State) (n : ℕ) (k : KernelState) (o : Option HartState) → slice_get s.harts n ≡ o → HasKernel s k → KernelMoves (step_of s n o).state k
-step_moves s n k None e has = still s k has
-step_moves s n k (Some h) e has = place_moves s n h k h.place (record { here = e; has = has; place = refl })
+-- ---- each row
+moves_by : (s : State) (n : ℕ) (k : KernelState) (x : Stepped) → HasKernel s k → Did s n x → KernelMoves x.state k
+moves_by s n k x has (Stayed i) = rw i (record { next = k; has = has; moves = Same refl })
+moves_by s n k x has (TookBox h box state a b i) = rw i (made _ k (own_step s n h k _ (Box state) has a tt tt))
+moves_by s n k x has (GaveBox h box a i) = rw i (made _ k (own_step s n h k _ Done has a tt tt))
+moves_by s n k x has (ChangedBox h box state a b i) = rw i (made _ k (own_step s n h k _ Done has a tt tt))
+moves_by s n k x has (Loaded h from a i) = rw i (made _ k (own_step s n h k _ (Word _) has a tt tt))
+moves_by s n k x has (Stored h to value a i) = rw i (made _ k (own_step s n h k _ Done has a tt tt))
+moves_by s n k x has (TookGate h frame only gate a b c d i) = rw i (made _ k (own_step s n h k _ (ToldGate gate.version) has a tt tt))
+moves_by s n k x has (FoundOldVersion h frame only gate a b c d i) = rw i (made _ k (own_step s n h k _ OldVersion has a tt tt))
+moves_by s n k x has (OpenedGate h frame version a i) = rw i (made _ k (own_step s n h k _ Done has a tt tt))
+moves_by s n k x has (TookKernel h k0 a b i) = rw i (made _ k (take_moves s n h k k0 has a b))
+moves_by s n k x has (GaveKernel h a i) = rw i (made _ k (give_moves s n h k h.kernel refl (in_hand_at s n h k has a) has a))
 
 pub kernel_stays : KernelStays
-kernel_stays s n k has = step_moves s n k (slice_get s.harts n) refl has
+kernel_stays s n k has = moves_by s n k (step s n) has (steps_by_row s n)
 
 -- ---- the kernel that is seen
 head_or : (o : Option KernelState) (ks : List KernelState) → head_of (option_to_list o ++ ks) ≡ option_or o (head_of ks)

@@ -1,7 +1,9 @@
+pub mod RowLaws
 pub mod StepLaws
 pub mod RunLaws
-pub mod GivingLaws
 pub mod KernelLaws
-pub mod MarkLaws
-pub mod CountLaws
 pub mod JournalLaws
+pub mod AccessLaws
+pub mod CountLaws
+pub mod GivingLaws
+pub mod GrowthLaws

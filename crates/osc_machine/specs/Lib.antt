@@ -1,14 +1,16 @@
 pub mod Parts
 pub mod Turns
 pub mod Step
+pub mod Did
+pub mod Views
 pub mod Run
 pub mod Start
-pub mod Views
 pub mod Picks
 pub mod DeadPages
 pub mod Safe
 pub mod Replay
 pub mod Refusals
+pub mod Agreements
 pub mod Due
 pub mod Laws
 pub mod Rows

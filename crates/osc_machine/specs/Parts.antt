@@ -7,27 +7,30 @@ use Rattle.osc_word.specs.declared.steps.Label.{Label}
 use Rattle.osc_paging.specs.Boxes.{BoxState}
 use Rattle.osc_guest.specs.User.{UserHart}
 use Rattle.osc_calls.specs.Kernel.{KernelState}
-use Rattle.osc_calls.specs.Jobs.{JobUnderWay}
+use Rattle.osc_calls.specs.Moves.{Move}
 
 -- a frame's gate: how many stores were done in the frame, and whether a hart has it
 pub record Gate : Type 0 where
   pub version : ℕ
   pub taken : Bool
 
--- what a hart hears when it gives the kernel back, and what the step shows
+-- what a hart hears when it gives the kernel back, what the step shows, and whether it found the journal
+-- full
 pub record Return : Type 0 where
   pub resume : Resume
-  pub label : Option Label
+  pub shows : List Label
+  pub full : Bool
 
 -- how far a hart is in a call: not in one; it takes the boxes from one on; it loads the first header
--- word, then the second, with the first in hand; it does the current job's actions; it gives the boxes
--- that it holds from one on; it gives the kernel
+-- word, then the second, with the first in hand; it does the moves that are left of the current job, of
+-- which the first may have read its word; it gives the boxes that it holds from one on; it gives the
+-- kernel
 pub data CallPlace : Type 0 where
   Outside : CallPlace
   TakingBoxes : ℕ → CallPlace
   FirstWord : WordAt → WordAt → CallPlace
   SecondWord : ℕ → WordAt → CallPlace
-  Working : JobUnderWay → CallPlace
+  Working : List Move → Option ℕ → CallPlace
   GivingBoxes : ℕ → CallPlace
   Returning : Return → CallPlace
 

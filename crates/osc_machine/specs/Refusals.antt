@@ -1,7 +1,7 @@
--- When a call is refused for want of frames or of shadow pages, by what the journal before it tells: the
--- frames in use are counted, and no table, page or free frame is looked at. This project's own.
-use Rattle.std.specs.Prelude.{ℕ, ◌+◌, ◌-◌, ◌/◌, ◌==◌, ◌≡◌, nat_lt, Bool, true, false, ◌&&◌, if◌then◌else◌, Option, Some, None, List, [], ◌∷◌, ◌++◌, length, filter, slice_get, sum_by, take}
-use Rattle.std.specs.List.{list_any, range_with_len}
+-- When a call is refused, by what the journal before it tells: the frames in use are counted, and no
+-- table, page or free frame is looked at. Whether a hart is idle is told beside it. This project's own.
+use Rattle.std.specs.Prelude.{ℕ, ◌+◌, ◌-◌, ◌/◌, ◌==◌, ◌≡◌, nat_le, nat_lt, not, Bool, true, false, if◌then◌else◌, Option, Some, None, is_some, List, [], ◌∷◌, ◌++◌, length, filter, sum_by, option_map}
+use Rattle.std.specs.List.{list_any, range_with_len, flat_map}
 use Rattle.osc_word.specs.declared.settings.Config.{Config}
 use Rattle.osc_word.specs.declared.settings.HeapKind.{HeapKind}
 use Rattle.osc_word.specs.declared.settings.HeapKind.TheVariants.{Oscar, Plain}
@@ -9,52 +9,56 @@ use Rattle.osc_word.specs.declared.calls.Entry.{Entry}
 use Rattle.osc_word.specs.declared.calls.Call.{Call}
 use Rattle.osc_word.specs.declared.calls.Call.TheVariants.{Malloc, Realloc, Fork, Spawn, Share}
 use Rattle.osc_word.specs.declared.calls.Answer.{Answer}
-use Rattle.osc_word.specs.declared.calls.Answer.TheVariants.{Given, Moved, Placed, NoShadow, NoFrames, NoHart, NoProcess, NoThread, Empty, DoubleFree, NotAnObject, HeaderDamaged}
+use Rattle.osc_word.specs.declared.calls.Answer.TheVariants.{Number, Given, Moved, Placed, NoShadow, NoFrames, NoHart, NoProcess, NoThread, Empty}
+use Rattle.osc_word.specs.AddressMap.{first_shared_page, first_shadow_page}
+use Rattle.osc_word.specs.Environment.{thread_limit}
 use Rattle.osc_class.specs.declared.Room.{Room}
 use Rattle.osc_class.specs.Rooms.{room_of, shadow_pages}
 use Rattle.osc_image.specs.Image.{Image, pages}
-use Rattle.osc_image.specs.Frames.{stack_pages}
+use Rattle.osc_image.specs.Frames.{stack_pages, table_count}
 use Rattle.osc_slot.specs.declared.Block.{Block}
 use Rattle.osc_slot.specs.Slots.{is_room, need}
 use Rattle.osc_slot.specs.Heap.{block_of_user}
-use Rattle.osc_calls.specs.Kernel.{top_of}
-use Rattle.osc_space.specs.Ranges.{first_shared_page, first_shadow_page}
-use Rattle.osc_space.specs.declared.ObjectFact.{ObjectFact}
-use Rattle.osc_space.specs.Objects.{mark, next_page, fact, object_at, leaf_dead}
+use Rattle.osc_space.specs.Objects.{Seen, mark, next_page, object_at, leaf_given_up}
 use Rattle.osc_space.specs.Header.{block_of}
-use Rattle.osc_space.specs.Used.{tables_below, frames_used}
+use Rattle.osc_space.specs.Space.{Reason, reason, first_reason}
+use Rattle.osc_space.specs.Used.{frames_used}
+use Rattle.osc_calls.specs.CallLaws.{is_want, is_heap_fault}
+use Rattle.osc_calls.specs.Kernel.{KernelState, idle_hart}
+use Rattle.osc_machine.specs.Parts.{State}
+use Rattle.osc_machine.specs.Run.{at}
+use Rattle.osc_machine.specs.Views.{kernel_of, journal_of}
 use Rattle.osc_machine.specs.Replay.{Region, Ledger, ledger_at, block_for, replay}
 
--- what does not change in a run: the settings, the pages of the image, and the level of the topmost
--- page table
+-- what does not change in a run: the settings, and the pages of the image
 pub record Setting : Type 0 where
   pub config : Config
   pub image : List ℕ
-  pub top : ℕ
 
 -- of the runs of an image
 abbrev pub setting_of : Image → Config → Setting
-setting_of image config = record { config = config; image = pages image; top = top_of config }
+setting_of image config = record { config = config; image = pages image }
 
 -- ---- the frames in use
 abbrev pub region_pages : List Region → ℕ
 region_pages regions = sum_by (λ (r : Region). r.pages) regions
 
 -- the pages that a process ever mapped
-abbrev pub ever_mapped : List ℕ → Ledger → List ℕ
-ever_mapped image l =
+abbrev pub ever_mapped : Setting → Ledger → List ℕ
+ever_mapped s l =
     range_with_len first_shadow_page (mark l.objects)
     ++ range_with_len first_shared_page (region_pages l.regions)
-    ++ l.canonical ++ stack_pages ++ image
+    ++ l.canonical ++ stack_pages ++ s.image
 
--- the leaf tables over shadows that were given up: all their pages were granted, and none belongs to a
--- live object
+-- the leaf tables over shadows that were given up: all their pages were granted, none belongs to a live
+-- object, and none to one that waits
 abbrev pub given_up : Ledger → ℕ
-given_up l = length (filter (leaf_dead l.objects) (range_with_len (first_shadow_page / 512) (mark l.objects / 512)))
+given_up l =
+    length (filter (leaf_given_up l.objects l.waiting) (range_with_len (first_shadow_page / 512) (mark l.objects / 512)))
 
--- the frames of a process but those of its regions
+-- the frames of a process but those of its regions: its tables and its data
 abbrev pub process_frames : Setting → Ledger → ℕ
-process_frames s l = frames_used s.top (ever_mapped s.image l) (given_up l) (length s.image) s.config.frames l.held
+process_frames s l = frames_used s.config.levels (ever_mapped s l) (given_up l) (length s.image) s.config.frames l.held
 
 abbrev pub living_frames : Setting → Ledger → ℕ
 living_frames s l = if l.over then 0 else process_frames s l
@@ -65,129 +69,97 @@ region_frames [] = 0
 region_frames (r ∷ regions) =
     (if list_any (λ (other : Region). other.call == r.call) regions then 0 else r.pages) + region_frames regions
 
-abbrev pub held_regions : List Ledger → List Region
-held_regions [] = []
-held_regions (l ∷ ledgers) = (if l.over then [] else l.regions) ++ held_regions ledgers
-
 -- the frames that all processes use
 unfoldable pub used : Setting → List Ledger → ℕ
-used s ledgers = sum_by (living_frames s) ledgers + region_frames (held_regions ledgers)
+used s ledgers =
+    sum_by (living_frames s) ledgers + region_frames (flat_map (λ (l : Ledger). if l.over then [] else l.regions) ledgers)
 
 abbrev pub unused : Setting → List Ledger → ℕ
 unused s ledgers = s.config.frames - used s ledgers
 
--- ---- need
 -- the tables that so many pages from this one on newly take
 abbrev pub new_tables : Setting → Ledger → ℕ → ℕ → ℕ
 new_tables s l first count =
-    tables_below s.top (range_with_len first count ++ ever_mapped s.image l) - tables_below s.top (ever_mapped s.image l)
+    table_count s.config.levels (range_with_len first count ++ ever_mapped s l) - table_count s.config.levels (ever_mapped s l)
 
-abbrev pub is_oscar : HeapKind → Bool
-is_oscar Oscar = true
-is_oscar Plain = false
+-- ---- the reasons of each call, in their order
+-- so many frames, and the tables of so many pages from this one on, are more than the unused ones
+abbrev pub no_frames : Setting → List Ledger → Ledger → ℕ → ℕ → ℕ → Reason
+no_frames s ledgers l frames first count = reason (nat_lt (unused s ledgers) (frames + new_tables s l first count)) NoFrames
 
--- more shadow pages than the limit
-abbrev pub lacks_shadows : Setting → Ledger → ℕ → Bool
-lacks_shadows s l pages = is_oscar s.config.heap && nat_lt s.config.shadows (mark l.objects + pages)
-
--- the frames and tables are more than the unused ones
-abbrev pub lacks_frames : Setting → List Ledger → Ledger → ℕ → ℕ → ℕ → Bool
-lacks_frames s ledgers l frames first count = nat_lt (unused s ledgers) (frames + new_tables s l first count)
-
--- the pages that a block of this room maps first: fresh shadow pages, or its own where a frame is taken
-abbrev pub first_mapped : HeapKind → ℕ → Room → Ledger → ℕ
-first_mapped Oscar frames room l = next_page l.objects
-first_mapped Plain frames room l = (block_for frames room l).start / 4096
-
-abbrev pub count_mapped : HeapKind → ℕ → Room → ℕ
-count_mapped Oscar frames room = shadow_pages room
-count_mapped Plain frames room = frames
-
--- why a block of a room with so many new frames is refused
-abbrev pub block_refusal : Setting → List Ledger → Ledger → Room → ℕ → Option Answer
-block_refusal s ledgers l room frames =
-    if lacks_shadows s l (shadow_pages room) then Some NoShadow
-    else if lacks_frames s ledgers l frames (first_mapped s.config.heap s.config.frames room l) (count_mapped s.config.heap frames room)
-    then Some NoFrames
-    else None
-
--- ---- each call
-abbrev pub new_frames : Setting → Ledger → Room → ℕ
-new_frames s l room = need s.config.frames l.held room
-
--- a realloc that stays in its block takes no block frame
-abbrev pub frames_from : Setting → Ledger → Option Block → Room → ℕ
-frames_from s l None room = new_frames s l room
-frames_from s l (Some old) room = if is_room room old.room then 0 else new_frames s l room
+-- a block of a room, with so many new frames: under the heap with shadows fresh shadow pages are mapped,
+-- under the plain one its own pages where a frame is taken
+abbrev pub block_reasons : HeapKind → Setting → List Ledger → Ledger → Room → ℕ → List Reason
+block_reasons Oscar s ledgers l room frames =
+    reason (nat_lt s.config.shadows (mark l.objects + shadow_pages room)) NoShadow
+    ∷ no_frames s ledgers l frames (next_page l.objects) (shadow_pages room) ∷ []
+block_reasons Plain s ledgers l room frames =
+    no_frames s ledgers l frames ((block_for s.config room l).start / 4096) frames ∷ []
 
 -- the block that a pointer names
-abbrev pub block_of_object : List ObjectFact → Option ℕ → Option Block
-block_of_object objects None = None
-block_of_object objects (Some object) = block_of_fact (fact objects object)
-  where
-    block_of_fact : Option ObjectFact → Option Block
-    block_of_fact None = None
-    block_of_fact (Some o) = Some (block_of o)
-
 abbrev pub old_block : HeapKind → Ledger → ℕ → Option Block
-old_block Oscar l pointer = block_of_object l.objects (object_at l.objects pointer)
+old_block Oscar l pointer = option_map (λ (s : Seen). block_of s.fact) (object_at l.objects pointer)
 old_block Plain l pointer = block_of_user l.held pointer
 
--- the frames of a process that a child gets anew: its data but its regions, and its tables
-abbrev pub fork_frames : Setting → Ledger → ℕ
-fork_frames s l = process_frames s l
+-- the frames of a block of a room; a realloc that stays in its block takes none
+abbrev pub block_frames_from : Setting → Ledger → Room → Option Block → ℕ
+block_frames_from s l room None = need s.config.frames l.held room
+block_frames_from s l room (Some old) = if is_room room old.room then 0 else need s.config.frames l.held room
 
--- why a call of a process is refused for want; None where it is not, or is no call that takes memory
-unfoldable pub refusal : Setting → List Ledger → Ledger → Call → Option Answer
-refusal s ledgers l (Malloc size) = block_refusal s ledgers l (room_of size) (new_frames s l (room_of size))
-refusal s ledgers l (Realloc pointer size) =
-    block_refusal s ledgers l (room_of size) (frames_from s l (old_block s.config.heap l pointer) (room_of size))
-refusal s ledgers l Fork =
-    if nat_lt (length ledgers) s.config.processes && nat_lt (unused s ledgers) (fork_frames s l) then Some NoFrames else None
-refusal s ledgers l (Share pages) =
-    if lacks_frames s ledgers l pages (first_shared_page + region_pages l.regions) pages then Some NoFrames else None
-refusal s ledgers l _ = None
+-- `idle` says whether a hart is idle
+abbrev pub reasons : Setting → List Ledger → Bool → Ledger → Call → List Reason
+reasons s ledgers idle l (Malloc size) =
+    block_reasons s.config.heap s ledgers l (room_of size) (block_frames_from s l (room_of size) None)
+reasons s ledgers idle l (Realloc pointer size) =
+    block_reasons s.config.heap s ledgers l (room_of size)
+    (block_frames_from s l (room_of size) (old_block s.config.heap l pointer))
+reasons s ledgers idle l Fork =
+    reason (not idle) NoHart
+    ∷ reason (nat_le s.config.processes (length ledgers)) NoProcess
+    ∷ reason (nat_lt (unused s ledgers) (process_frames s l)) NoFrames ∷ []
+reasons s ledgers idle l (Spawn pc sp arg) =
+    reason (not idle) NoHart ∷ reason (nat_le thread_limit (sum_by (λ (l : Ledger). l.spawned) ledgers)) NoThread ∷ []
+reasons s ledgers idle l (Share pages) =
+    reason (pages == 0) Empty ∷ no_frames s ledgers l pages (first_shared_page + region_pages l.regions) pages ∷ []
+reasons s ledgers idle l _ = []
+
+-- why a call of a process is refused after a journal; None where it is not
+unfoldable pub refusal : Setting → List Entry → Bool → ℕ → Call → Option Answer
+refusal s journal idle pid call =
+    let ledgers = replay s.config journal in first_reason (reasons s ledgers idle (ledger_at ledgers pid) call)
 
 -- ---- the rule
--- the refusal for want that an answer is
-abbrev pub want_in : Answer → Option Answer
-want_in NoShadow = Some NoShadow
-want_in NoFrames = Some NoFrames
-want_in _ = None
+-- a realloc of what is no live object, or of a damaged header, faults before anything is refused
+abbrev pub faults : Call → Answer → Bool
+faults (Realloc pointer size) answer = is_heap_fault answer
+faults _ answer = false
 
--- an answer of a call that comes before want is looked at
-abbrev pub is_other_refusal : Call → Answer → Bool
-is_other_refusal Fork NoHart = true
-is_other_refusal Fork NoProcess = true
-is_other_refusal (Spawn pc sp arg) NoHart = true
-is_other_refusal (Spawn pc sp arg) NoThread = true
-is_other_refusal (Share pages) Empty = true
-is_other_refusal (Realloc pointer size) (DoubleFree object call) = true
-is_other_refusal (Realloc pointer size) NotAnObject = true
-is_other_refusal (Realloc pointer size) (HeaderDamaged kept found) = true
-is_other_refusal _ _ = false
+-- what a call that may be refused answers where it is not
+abbrev pub gives : Call → Answer → Bool
+gives (Malloc size) (Given object pointer) = true
+gives (Malloc size) (Placed pointer) = true
+gives (Malloc size) _ = false
+gives (Realloc pointer size) (Given object new) = true
+gives (Realloc pointer size) (Moved old object new) = true
+gives (Realloc pointer size) (Placed new) = true
+gives (Realloc pointer size) _ = false
+gives Fork (Number child) = true
+gives Fork _ = false
+gives (Spawn pc sp arg) (Number thread) = true
+gives (Spawn pc sp arg) _ = false
+gives (Share pages) (Number address) = true
+gives (Share pages) _ = false
+gives _ _ = true
 
--- malloc and realloc answer a pointer where they are not refused
-abbrev pub is_pointer : Answer → Bool
-is_pointer (Given object pointer) = true
-is_pointer (Moved old object pointer) = true
-is_pointer (Placed pointer) = true
-is_pointer _ = false
+-- what a call answered is a refusal, this one, or gives
+abbrev pub Answers : Option Answer → Call → Answer → Type 0
+Answers (Some refused) call answer = answer ≡ refused
+Answers None call answer = (is_want answer ≡ false) × (gives call answer ≡ true)
 
-abbrev pub AnswersPointer : Call → Answer → Type 0
-AnswersPointer (Malloc size) answer = is_pointer answer ≡ true
-AnswersPointer (Realloc pointer size) answer = is_pointer answer ≡ true
-AnswersPointer _ answer = Unit {0}
-
-abbrev pub refusal_of : Setting → List Ledger → Entry → Option Answer
-refusal_of s ledgers entry = refusal s ledgers (ledger_at ledgers entry.pid) entry.call
-
--- a call of a journal is refused for want exactly where the rule says so, by what the journal before it
--- tells; and malloc and realloc that are not refused give
-pub record RefusesForWant (s : Setting) (journal : List Entry) : Type 0 where
-  pub wants : (i : ℕ) (entry : Entry) → slice_get journal i ≡ Some entry
-      → is_other_refusal entry.call entry.answer ≡ false
-      → want_in entry.answer ≡ refusal_of s (replay s.config (take i journal)) entry
-  pub gives : (i : ℕ) (entry : Entry) → slice_get journal i ≡ Some entry
-      → is_other_refusal entry.call entry.answer ≡ false → want_in entry.answer ≡ None
-      → AnswersPointer entry.call entry.answer
+-- each step of a run that enters a call in the journal answers as the rule says, by the journal and the
+-- records of harts before it
+abbrev pub RefusesByRule : Setting → State → List ℕ → Type 0
+RefusesByRule s start picks =
+    (i : ℕ) (k : KernelState) (entry : Entry) → kernel_of (at start picks i).state ≡ Some k
+    → journal_of (at start picks (i + 1)).state ≡ k.journal ++ entry ∷ [] → faults entry.call entry.answer ≡ false
+    → Answers (refusal s k.journal (is_some (idle_hart k.records)) entry.pid entry.call) entry.call entry.answer

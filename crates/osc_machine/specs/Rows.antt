@@ -10,7 +10,7 @@ use Rattle.osc_slot.specs.declared.Block.{Block}
 use Rattle.osc_slot.specs.Slots.{least_start}
 use Rattle.osc_paging.specs.declared.Look.TheVariants.{Hit, Miss}
 use Rattle.osc_paging.specs.Boxes.{no_entries, look, filled}
-use Rattle.osc_space.specs.Ranges.{read_write_at}
+use Rattle.osc_space.specs.LeafFlags.{read_write_at}
 
 -- the rooms of 16, 17, 2032, 2033, 4080 and 4081 bytes: with the header, two of the least classes, the
 -- greatest class, then whole pages
@@ -19,10 +19,11 @@ RoomsFound =
     (block_bytes (room_of 16) ≡ 32) × (block_bytes (room_of 17) ≡ 48) × (block_bytes (room_of 2032) ≡ 2048)
     × (room_of 2033 ≡ Pages 1) × (room_of 4080 ≡ Pages 1) × (room_of 4081 ≡ Pages 2)
 
--- numbers VPN of an address, and of one that is not canonical
+-- numbers VPN of an address, and of one that is not canonical; with three levels and with four
 abbrev pub AddressesSplit : Type 0
 AddressesSplit =
-    (page_numbers 3 0x1000000010 ≡ Some (64 ∷ 0 ∷ 0 ∷ [])) × (page_numbers 3 0x4000000000 ≡ None)
+    (page_numbers 3 0x1000000010 ≡ Some (0 ∷ 64 ∷ 0 ∷ 0 ∷ [])) × (page_numbers 3 0x4000000000 ≡ None)
+    × (page_numbers 4 0x4000000000 ≡ Some (0 ∷ 256 ∷ 0 ∷ 0 ∷ [])) × (page_numbers 4 0x800000000000 ≡ None)
 
 -- a leaf that is read and written, and a link
 abbrev pub EntriesWritten : Type 0

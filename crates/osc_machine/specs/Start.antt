@@ -7,7 +7,7 @@ use Rattle.osc_word.specs.declared.orders.Start.{Start}
 use Rattle.osc_paging.specs.Boxes.{new_box}
 use Rattle.osc_image.specs.Image.{Image}
 use Rattle.osc_guest.specs.User.{UserHart, user_idle, user_begin}
-use Rattle.osc_calls.specs.Kernel.{KernelState, top_of}
+use Rattle.osc_calls.specs.Kernel.{KernelState}
 use Rattle.osc_calls.specs.Open.{open_kernel, open_words, open_start}
 use Rattle.osc_machine.specs.Parts.{Gate, Outside, HartState, State}
 
@@ -15,15 +15,15 @@ abbrev pub open_gate : Gate
 open_gate = record { version = 0; taken = false }
 
 -- the guest part of a hart: the first one runs
-abbrev pub first_user : Config → Start → ℕ → UserHart
-first_user config start zero = user_begin config.frames (top_of config) start
-first_user config start (suc number) = user_idle config.frames (top_of config)
+abbrev pub first_user : Start → ℕ → UserHart
+first_user start zero = user_begin start
+first_user start (suc number) = user_idle
 
 abbrev pub first_hart : Config → Start → ℕ → HartState
 first_hart config start number = record {
   number = number;
   count = config.harts;
-  user = first_user config start number;
+  user = first_user start number;
   place = Outside;
   kernel = None;
   boxes = replicate config.harts None;

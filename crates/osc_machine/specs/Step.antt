@@ -1,7 +1,7 @@
 -- One step of the machine: a hart asks for its next action, the action is done on the one thing that it
 -- names, and the hart is told. A step changes that thing and that hart, and nothing else. Where the thing
 -- is taken nothing changes. This project's own.
-use Rattle.std.specs.Prelude.{ℕ, ◌==◌, Bool, true, false, ◌||◌, if◌then◌else◌, Option, Some, None, slice_get, slice_set, slice_index_or}
+use Rattle.std.specs.Prelude.{ℕ, ◌==◌, Bool, true, false, ◌||◌, if◌then◌else◌, Option, Some, None, List, [], slice_get, slice_set, slice_index_or}
 use Rattle.osc_word.specs.declared.steps.Event.{Event}
 use Rattle.osc_word.specs.declared.steps.Label.{Label}
 use Rattle.osc_sv39.specs.Walk.{word_at, put_word}
@@ -18,18 +18,18 @@ use Rattle.osc_machine.specs.Turns as told
 pub record Stepped : Type 0 where
   pub state : State
   pub event : Option Event
-  pub label : Option Label
+  pub shows : List Label
 
 -- nothing changes
 abbrev pub stays : State → Stepped
-stays s = record { state = s; event = None; label = None }
+stays s = record { state = s; event = None; shows = [] }
 
--- the hart with number n goes on as it was told
-abbrev pub turned : State → ℕ → Turn → Stepped
-turned s n t = record {
-  state = record s { harts = slice_set s.harts n t.hart };
-  event = t.event;
-  label = t.label;
+-- the hart with number n, which is h, goes on as it is told
+abbrev pub tells : State → ℕ → HartState → HartTold → Stepped
+tells s n h t = let turn = hart_told h t in record {
+  state = record s { harts = slice_set s.harts n turn.hart };
+  event = turn.event;
+  shows = turn.shows;
 }
 
 -- ---- boxes
@@ -39,15 +39,14 @@ box_at s box = slice_index_or s.boxes box None
 abbrev pub with_box : State → ℕ → Option BoxState → State
 with_box s box state = record s { boxes = slice_set s.boxes box state }
 
-abbrev pub took_box : State → ℕ → HartState → ℕ → Option BoxState → Stepped
-took_box s n h box None = stays s
-took_box s n h box (Some state) = turned (with_box s box None) n (hart_told h (told.Box state))
+abbrev pub takes_box : State → ℕ → HartState → ℕ → Option BoxState → Stepped
+takes_box s n h box None = stays s
+takes_box s n h box (Some state) = tells (with_box s box None) n h (told.Box state)
 
 -- a box that is at home is changed as the call says
-abbrev pub altered_box : State → ℕ → HartState → ℕ → Option BoxState → Stepped
-altered_box s n h box None = stays s
-altered_box s n h box (Some state) =
-    turned (with_box s box (Some (box_given box h.kernel (Some state)))) n (hart_told h told.Done)
+abbrev pub changes_box : State → ℕ → HartState → ℕ → Option BoxState → Stepped
+changes_box s n h box None = stays s
+changes_box s n h box (Some state) = tells (with_box s box (Some (box_given box h.kernel (Some state)))) n h told.Done
 
 -- ---- gates
 -- a gate that is taken, or whose version is the last, is not to be had
@@ -58,36 +57,33 @@ abbrev pub is_wanted : Option ℕ → ℕ → Bool
 is_wanted None version = true
 is_wanted (Some only) version = only == version
 
-abbrev pub with_gate : State → ℕ → Gate → State
-with_gate s frame gate = record s { gates = slice_set s.gates frame gate }
+abbrev pub with_gate : State → ℕ → ℕ → Bool → State
+with_gate s frame version taken = record s { gates = slice_set s.gates frame (record { version = version; taken = taken }) }
 
-abbrev pub took_gate : State → ℕ → HartState → ℕ → Option ℕ → Option Gate → Stepped
-took_gate s n h frame only None = stays s
-took_gate s n h frame only (Some gate) =
+abbrev pub takes_gate : State → ℕ → HartState → ℕ → Option ℕ → Option Gate → Stepped
+takes_gate s n h frame only None = stays s
+takes_gate s n h frame only (Some gate) =
     if is_shut gate then stays s
-    else if is_wanted only gate.version
-    then turned (with_gate s frame (record { version = gate.version; taken = true })) n (hart_told h (told.Gate gate.version))
-    else turned s n (hart_told h told.OldVersion)
+    else if is_wanted only gate.version then tells (with_gate s frame gate.version true) n h (told.Gate gate.version)
+    else tells s n h told.OldVersion
 
 -- ---- the kernel
-abbrev pub took_kernel : State → ℕ → HartState → Option KernelState → Stepped
-took_kernel s n h None = stays s
-took_kernel s n h (Some k) = turned (record s { kernel = None }) n (hart_told h (told.Kernel k))
+abbrev pub takes_kernel : State → ℕ → HartState → Option KernelState → Stepped
+takes_kernel s n h None = stays s
+takes_kernel s n h (Some k) = tells (record s { kernel = None }) n h (told.Kernel k)
 
 -- ---- all actions
 -- the action of hart n, which is h
 abbrev pub acted : State → ℕ → HartState → HartAsk → Stepped
-acted s n h (TakeBox box) = took_box s n h box (box_at s box)
-acted s n h (GiveBox box) = turned (with_box s box (Some (handed_box h))) n (hart_told h told.Done)
-acted s n h (ChangeBox box) = altered_box s n h box (box_at s box)
-acted s n h (Load at) = turned s n (hart_told h (told.Word (word_at s.words at.frame at.index)))
-acted s n h (Store at value) =
-    turned (record s { words = put_word s.words at.frame at.index value }) n (hart_told h told.Done)
-acted s n h (TakeGate frame only) = took_gate s n h frame only (slice_get s.gates frame)
-acted s n h (OpenGate frame version) =
-    turned (with_gate s frame (record { version = version; taken = false })) n (hart_told h told.Done)
-acted s n h TakeKernel = took_kernel s n h s.kernel
-acted s n h GiveKernel = turned (record s { kernel = handed_kernel h }) n (hart_told h told.Done)
+acted s n h (TakeBox box) = takes_box s n h box (box_at s box)
+acted s n h (GiveBox box) = tells (with_box s box (Some (handed_box h))) n h told.Done
+acted s n h (ChangeBox box) = changes_box s n h box (box_at s box)
+acted s n h (Load at) = tells s n h (told.Word (word_at s.words at.frame at.index))
+acted s n h (Store at value) = tells (record s { words = put_word s.words at.frame at.index value }) n h told.Done
+acted s n h (TakeGate frame only) = takes_gate s n h frame only (slice_get s.gates frame)
+acted s n h (OpenGate frame version) = tells (with_gate s frame version false) n h told.Done
+acted s n h TakeKernel = takes_kernel s n h s.kernel
+acted s n h GiveKernel = tells (record s { kernel = handed_kernel h }) n h told.Done
 acted s n h Rest = stays s
 
 abbrev pub step_of : State → ℕ → Option HartState → Stepped
@@ -95,5 +91,5 @@ step_of s n None = stays s
 step_of s n (Some h) = acted s n h (hart_ask h)
 
 -- a step of hart n
-abbrev pub step : State → ℕ → Stepped
+unfoldable pub step : State → ℕ → Stepped
 step s n = step_of s n (slice_get s.harts n)

@@ -2,7 +2,12 @@
 
 ghost use Rattle.std.specs.Prelude.{ℕ, ◌≡◌, List, [], ◌∷◌};
 ghost use Rattle.osc_machine.specs.Picks.{picks};
+ghost use Rattle.osc_machine.specs.Did.{TurnsByRow, StepsByRow};
 ghost use Rattle.osc_machine.specs.Laws.{
+  AccessesShow,
+  GrowsInSteps,
+  GrowsInRuns,
+  GrowsFromStart,
   NobodyStays,
   RestStays,
   BusyKeeps,
@@ -12,12 +17,10 @@ ghost use Rattle.osc_machine.specs.Laws.{
   SizesStay,
   RunsJoin,
   RunsBegin,
+  RunsEnd,
   KernelStays,
   KernelSeen,
   StartHasKernel,
-  MarksRiseInSteps,
-  MarksRiseInRuns,
-  MarksRiseFromStart,
   EventsCounted,
   OneThingChanges,
   RefusedEntriesTellNothing,
@@ -36,6 +39,12 @@ pub fn stays_exactly()
     ensures rest { RestStays }
     ensures busy { BusyKeeps }
     ensures taken { TakenStays }
+{}
+
+/// Each turn of a hart and each step is one of their rows, with its equations.
+pub fn steps_go_by_rows()
+    ensures turns { TurnsByRow }
+    ensures steps { StepsByRow }
 {}
 
 /// What a hart makes of a giving doesn't look at what was given.
@@ -57,6 +66,12 @@ pub fn runs_go_on()
     ensures begin { RunsBegin }
 {}
 
+/// The shortest list of picks that ends the machine: at its last pick the machine is over, and at
+/// none before.
+pub fn runs_end()
+    ensures { RunsEnd }
+{}
+
 /// The kernel is in one place, and a step does at most one thing to it.
 pub fn kernel_in_one_place()
     ensures stays { KernelStays }
@@ -64,16 +79,21 @@ pub fn kernel_in_one_place()
     ensures start { StartHasKernel }
 {}
 
-/// Marks never fall, and no process is dropped.
-pub fn marks_never_fall()
-    ensures steps { MarksRiseInSteps }
-    ensures runs { MarksRiseInRuns }
-    ensures start { MarksRiseFromStart }
+/// Along a run no process is dropped, objects only grow, and no mark falls.
+pub fn objects_grow()
+    ensures steps { GrowsInSteps }
+    ensures runs { GrowsInRuns }
+    ensures start { GrowsFromStart }
 {}
 
 /// The count that is printed of a hart is that of its committed events.
 pub fn events_are_counted()
     ensures { EventsCounted }
+{}
+
+/// Each access that is done shows its label.
+pub fn accesses_show()
+    ensures { AccessesShow }
 {}
 
 /// An entry of a journal that was refused tells nothing of any process.

@@ -106,7 +106,7 @@ linked-agrees entries c words l n parent frame k = record {
   zeros = λ f i p. link-zeros entries c words l n parent frame f i p k;
 }
 
-position_passes : (free : List Bool) (i : ℕ) → position (λ b. b) free ≡ Some i → slice_get free i ≡ Some true
+pub position_passes : (free : List Bool) (i : ℕ) → position (λ b. b) free ≡ Some i → slice_get free i ≡ Some true
 position_passes free i e = let f = position-Some (λ b. b) free i false e in grind (arith, f, slice_get-get_or free i false)
 
 link-agrees : (entries : ℕ → ℕ → ℕ) (c : Changed) (words : List ℕ) (l n : ℕ) → l < c.tables.top → AgreesAfter entries words c → AgreesAfter entries words (link l n c)
@@ -305,7 +305,7 @@ unlinked-agrees entries c words leaf frame parent s empty there over_it g = reco
         (aside f _ p refl e)
 
 -- ---- frames are given back
-frames_given-other : (ts : List TableFrame) (free : List Bool) (f : ℕ) → piece_of ts f ≡ None → slice_get (frames_given ts free) f ≡ slice_get free f
+pub frames_given-other : (ts : List TableFrame) (free : List Bool) (f : ℕ) → piece_of ts f ≡ None → slice_get (frames_given ts free) f ≡ slice_get free f
 frames_given-other [] free f h = refl
 frames_given-other (t ∷ ts) free f h = grind (arith, nat_tests, h, frames_given-other ts (set free t.frame true) f, slice_get-set free t.frame f true)
 

@@ -4,4 +4,7 @@ pub mod Kept
 pub mod Walked
 pub mod Needed
 pub mod TableLawProofs
+pub mod Elsewhere
+pub mod Others
+pub mod Copied
 pub mod CacheLawProofs

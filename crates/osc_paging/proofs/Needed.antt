@@ -7,7 +7,7 @@ use Rattle.osc_sv39.specs.Walk.{piece}
 use Rattle.osc_paging.specs.declared.TableFrame.{TableFrame}
 use Rattle.osc_paging.specs.KeptTables.{root_of, levels_of, frame_of, mapping_at, lack, missing, need, need_below, pieces_over}
 use Rattle.osc_paging.specs.TableChanges.{Changed, with_table, linked, link, link_all, leaf_put, map_page, map_pages}
-use Rattle.osc_paging.specs.TableLaws.{free_frames, MapsPage}
+use Rattle.osc_paging.specs.TableLaws.{free_frames, MapsPage, MapsPages, mapped_among}
 use Rattle.osc_paging.proofs.TableLists.{mapping_at-with_page, frame_of-with_table}
 use Rattle.osc_paging.proofs.Kept.{link-top}
 
@@ -209,6 +209,7 @@ maps number root m c e s =
     let t = some_of _ k.1 in
     record {
       root = rw map_page-top (ap (λ ts. frame_of ts top 0) (put-tables number m (frame_of (link_all top number c).tables.tables 0 (number / 512)) (link_all top number c)).0 ∙ link_all-above top number c top 0 (omega arith));
+      top = map_page-top number m c;
       taken = rw t.1 k.0.count;
       pages = λ q. rw t.1 (mapping_at-with_page _ number q m ∙ ap (λ ms. cond (number == q) (Some m) (mapping_at ms q)) (link_all-pages top number c));
     }
@@ -226,25 +227,70 @@ need_low (suc l) number more ts =
     let e1 : piece (suc l) (number + more) - piece (suc l) number + 1 ≡ suc (piece (suc l) (number + more) - piece (suc l) number) = omega arith in
     rw (one, e1) (omega arith)
 
--- ascending pages take what they need together, one after another
-pub maps_all : (number root : ℕ) (m : Mapping) (ms : List Mapping) (c : Changed) → root_of c.tables ≡ Some root → piece (levels_of c.tables) (number + length ms) ≡ 0 → need c.tables number (suc (length ms)) ≤ free_frames c.free → free_frames (map_pages number (m ∷ ms) c).free + need c.tables number (suc (length ms)) ≡ free_frames c.free
-maps_all number root m [] c e z s =
+-- what the first page of many needs, and the others then
+pub needs_apart : (number root more : ℕ) (m : Mapping) (c : Changed) → root_of c.tables ≡ Some root → piece (levels_of c.tables) (number + more) ≡ 0 → need c.tables number 1 ≤ free_frames c.free → need c.tables number (suc (suc more)) ≡ need c.tables number 1 + need (map_page number m c).tables (number + 1) (suc more)
+needs_apart number root more m c e z low =
     let top = c.tables.top in
-    let r : piece (suc top) number ≡ 0 = piece_top (suc top) number (number + 0) (omega arith) z in
-    (maps number root m c (rw r e) s).taken
-maps_all number root m (x ∷ ms) c e z s =
-    let top = c.tables.top in
-    let r : piece (suc top) number ≡ 0 = piece_top (suc top) number (number + suc (length ms)) (omega arith) z in
+    let r : piece (suc top) number ≡ 0 = piece_top (suc top) number (number + more) (omega arith) z in
     let e2 : frame_of c.tables.tables top (piece (suc top) number) ≡ Some root = rw r e in
     let d = link_all top number c in
     let f : (map_page number m c).tables.tables ≡ d.tables.tables = (put-tables number m _ d).0 in
-    let low : need_below c.tables.tables top number 1 ≤ free_frames c.free = (let h = need_low top number (suc (length ms)) c.tables.tables in omega arith) in
     let g : Grown top number c.tables.tables (map_page number m c).tables.tables = subst (Grown top number c.tables.tables) (sym f) (link_all-grown top number c root e2 low) in
-    let split = need_split top top number (length ms) c.tables.tables (map_page number m c).tables.tables (omega arith) g in
-    let took = (maps number root m c e2 low).taken in
     let same = map_page-top number m c in
-    let still : root_of (map_page number m c).tables ≡ Some root = rw same (rw f (link_all-above top number c top 0 (omega arith) ∙ e)) in
-    let z2 : piece (levels_of (map_page number m c).tables) (number + 1 + length ms) ≡ 0 = rw same (let q : number + 1 + length ms ≡ number + suc (length ms) = omega arith in rw q z) in
-    let left : need_below (map_page number m c).tables.tables (map_page number m c).tables.top (number + 1) (suc (length ms)) ≡ need_below (map_page number m c).tables.tables top (number + 1) (suc (length ms)) = rw same refl in
+    rw same (need_split top top number more c.tables.tables (map_page number m c).tables.tables (omega arith) g)
+
+need_first : (number more : ℕ) (c : Changed) → need c.tables number (suc more) ≤ free_frames c.free → need c.tables number 1 ≤ free_frames c.free
+need_first number more c s = let h = need_low c.tables.top number more c.tables.tables in omega arith
+
+-- ascending pages take what they need together, one after another, and each is mapped as asked
+pub record MapsAll (number : ℕ) (ms : List Mapping) (c d : Changed) : Type 0 where
+  pub pages : MapsPages number ms c d
+  pub taken : free_frames d.free + need c.tables number (length ms) ≡ free_frames c.free
+
+among_one : (number q : ℕ) (m : Mapping) (was : Option Mapping) → cond (number == q) (Some m) was ≡ mapped_among number (m ∷ []) q was
+among_one number q m was = ⊎_elim
+    (λ (d : number ≡ q). (let z : q - number ≡ 0 = omega arith in rw z (grind (arith, nat_tests, d))))
+    (λ (d : number ≢ q). grind (arith, nat_tests, d))
+    (either number q)
+  where
+    either : (a b : ℕ) → (a ≡ b) ⊎ (a ≢ b)
+    either a b = grind arith
+
+among_more : (number q : ℕ) (m : Mapping) (ms : List Mapping) (was : Option Mapping) → mapped_among (number + 1) ms q (cond (number == q) (Some m) was) ≡ mapped_among number (m ∷ ms) q was
+among_more number q m ms was = ⊎_elim
+    (λ (d : q ≤ number). (let z : q - number ≡ 0 = omega arith in rw z (grind (arith, nat_tests, d))))
+    (λ (d : number < q). (let z : q - number ≡ suc (q - (number + 1)) = omega arith in rw z (grind (arith, nat_tests, d))))
+    (either number q)
+  where
+    either : (a b : ℕ) → (b ≤ a) ⊎ (a < b)
+    either a b = grind arith
+
+pub maps_all : (number root : ℕ) (m : Mapping) (ms : List Mapping) (c : Changed) → root_of c.tables ≡ Some root → piece (levels_of c.tables) (number + length ms) ≡ 0 → need c.tables number (suc (length ms)) ≤ free_frames c.free → MapsAll number (m ∷ ms) c (map_pages number (m ∷ ms) c)
+maps_all number root m [] c e z s =
+    let top = c.tables.top in
+    let r : piece (suc top) number ≡ 0 = piece_top (suc top) number (number + 0) (omega arith) z in
+    let one = maps number root m c (rw r e) s in
+    record {
+      pages = record { root = one.root; top = one.top; pages = λ q. one.pages q ∙ among_one number q m (mapping_at c.tables.pages q) };
+      taken = one.taken;
+    }
+maps_all number root m (x ∷ ms) c e z s =
+    let top = c.tables.top in
+    let r : piece (suc top) number ≡ 0 = piece_top (suc top) number (number + suc (length ms)) (omega arith) z in
+    let low = need_first number (suc (length ms)) c s in
+    let one = maps number root m c (rw r e) low in
+    let z1 : piece (suc top) (number + length ms) ≡ 0 = piece_top (suc top) (number + length ms) (number + suc (length ms)) (omega arith) z in
+    let apart = needs_apart number root (length ms) m c e z1 low in
+    let took = one.taken in
+    let still : root_of (map_page number m c).tables ≡ Some root = one.root ∙ e in
+    let z2 : piece (levels_of (map_page number m c).tables) (number + 1 + length ms) ≡ 0 = rw one.top (let q : number + 1 + length ms ≡ number + suc (length ms) = omega arith in rw q z) in
     let on = maps_all (number + 1) root x ms (map_page number m c) still z2 (omega arith) in
-    omega arith
+    let on_taken = on.taken in
+    record {
+      pages = record {
+        root = on.pages.root ∙ one.root;
+        top = on.pages.top ∙ one.top;
+        pages = λ q. on.pages.pages q ∙ ap (mapped_among (number + 1) (x ∷ ms) q) (one.pages q) ∙ among_more number q m (x ∷ ms) (mapping_at c.tables.pages q);
+      };
+      taken = omega arith;
+    }

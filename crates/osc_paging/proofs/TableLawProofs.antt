@@ -11,13 +11,13 @@ use Rattle.osc_paging.specs.declared.Piece.{Piece}
 use Rattle.osc_paging.specs.declared.TableFrame.{TableFrame}
 use Rattle.osc_paging.specs.JobWords.{zeroed}
 use Rattle.osc_paging.specs.KeptTables.{KeptTables, page_entry, link_entry, mapping_at, frame_of, piece_of, levels_of, child, closed, need_below, missing}
-use Rattle.osc_paging.specs.TableChanges.{Changed, opened, unlinked, leaf_put, link_all}
+use Rattle.osc_paging.specs.TableChanges.{Changed, opened, unlinked, leaf_put, link_all, map_page}
 use Rattle.osc_paging.specs.Agree.{Agrees, AgreesAfter}
-use Rattle.osc_paging.specs.TableLaws.{WalkGivesMapping, OpeningAgrees, MappingKeeps, UnmappingKeeps, ReclaimingKeeps, GivingKeeps, MappingTakesNeed, MappingsTakeNeed, StoresElsewhereKeep, TablesStandAbove}
+use Rattle.osc_paging.specs.TableLaws.{WalkGivesMapping, OpeningAgrees, MappingKeeps, UnmappingKeeps, ReclaimingKeeps, GivingKeeps, MappingTakesNeed, MappingsTakeNeed, MappingsMapPages, NeedSplits, StoresElsewhereKeep, TablesStandAbove}
 use Rattle.osc_paging.proofs.WordLists.{get_or-set, zeroed_at, length-zeroed}
 use Rattle.osc_paging.proofs.Kept.{put-agrees, gone-agrees, leaf_taken, take-agrees, unlinked-agrees, give-agrees, link_all-agrees}
 use Rattle.osc_paging.proofs.Walked.{walks}
-use Rattle.osc_paging.proofs.Needed.{maps, maps_all}
+use Rattle.osc_paging.proofs.Needed.{maps, maps_all, needs_apart}
 
 piece-div : (l n : ℕ) → piece (suc l) n ≡ piece l (n / 512)
 piece-div zero n = refl
@@ -29,7 +29,7 @@ piece-top (suc l) n s =
     let p : n < 512 * 512 ^ l = rw pow-succ' at s in
     piece-div l n ∙ piece-top l (n / 512) (omega arith)
 
-positive : (l : ℕ) → 0 < 512 ^ l
+pub positive : (l : ℕ) → 0 < 512 ^ l
 positive zero = omega arith
 positive (suc l) = rw pow-succ' (let h = positive l in omega arith)
 
@@ -126,7 +126,15 @@ none_needed ts (suc l) number = let h = none_needed ts l number in omega arith
 
 pub mappings_take_need : MappingsTakeNeed
 mappings_take_need number root [] c e s n = rw (none_needed c.tables.tables c.tables.top number) (omega arith)
-mappings_take_need number root (m ∷ ms) c e s n = maps_all number root m ms c e (piece-top (levels_of c.tables) (number + length ms) (omega arith)) n
+mappings_take_need number root (m ∷ ms) c e s n = (maps_all number root m ms c e (piece-top (levels_of c.tables) (number + length ms) (omega arith)) n).taken
+
+pub mappings_map_pages : MappingsMapPages
+mappings_map_pages number root [] c e s n = record { root = refl; top = refl; pages = λ q. grind (arith, nat_tests) }
+mappings_map_pages number root (m ∷ ms) c e s n = (maps_all number root m ms c e (piece-top (levels_of c.tables) (number + length ms) (omega arith)) n).pages
+
+pub need_splits : NeedSplits
+need_splits number root zero m c e s n = let none = none_needed (map_page number m c).tables.tables (map_page number m c).tables.top (number + 1) in omega arith
+need_splits number root (suc more) m c e s n = needs_apart number root more m c e (piece-top (levels_of c.tables) (number + more) (omega arith)) n
 
 -- words that are the same at all tables agree
 same-agrees : (t : KeptTables) (free : List Bool) (words now : List ℕ) (g : ℕ) → Agrees t free words → length now ≡ length words → piece_of t.tables g ≡ None → piece_of t.aside g ≡ None → ((f i : ℕ) → i < 512 → f ≢ g → word_at now f i ≡ word_at words f i) → Agrees t free now

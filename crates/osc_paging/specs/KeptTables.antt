@@ -46,10 +46,13 @@ abbrev pub mapping_of : KeptTables → ℕ → Option Mapping
 mapping_of t page =
     if is_canonical (levels_of t) page then mapping_at t.pages (number_of (levels_of t) page) else None
 
--- the canonical page of this number
+-- the canonical page of this number, in the range of so many levels
+abbrev pub canonical_page : ℕ → ℕ → ℕ
+canonical_page levels number =
+    if nat_lt number (2 ^ (9 * levels - 1)) then number else 2 ^ 52 - 2 ^ (9 * levels) + number
+
 abbrev pub page_numbered : KeptTables → ℕ → ℕ
-page_numbered t number =
-    if nat_lt number (2 ^ (9 * levels_of t - 1)) then number else 2 ^ 52 - 2 ^ (9 * levels_of t) + number
+page_numbered t number = canonical_page (levels_of t) number
 
 -- ---- tables
 abbrev pub frame_of : List TableFrame → ℕ → ℕ → Option ℕ

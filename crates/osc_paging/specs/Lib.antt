@@ -4,6 +4,8 @@ pub mod TableChanges
 pub mod Agree
 pub mod Boxes
 pub mod TableLaws
+pub mod CopyLaws
+pub mod OtherLaws
 pub mod CacheLaws
 pub use Rattle.osc_sv39.specs.Entries
 pub use Rattle.osc_sv39.specs.Walk

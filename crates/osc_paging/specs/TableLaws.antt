@@ -1,5 +1,5 @@
 -- The laws of tables, for any number of levels.
-use Rattle.std.specs.Prelude.{ℕ, suc, ◌+◌, ◌*◌, ◌/◌, ◌^◌, ◌≡◌, ◌≢◌, ◌<◌, ◌≤◌, ◌==◌, Bool, false, List, Some, None, slice_get, length, count_by, if◌then◌else◌}
+use Rattle.std.specs.Prelude.{ℕ, suc, ◌+◌, ◌-◌, ◌*◌, ◌/◌, ◌^◌, ◌≡◌, ◌≢◌, ◌<◌, ◌≤◌, ◌==◌, ◌&&◌, nat_lt, nat_le, Bool, false, List, Option, Some, None, slice_get, length, count_by, if◌then◌else◌}
 use Rattle.osc_sv39.specs.declared.entries.Access.{Access}
 use Rattle.osc_sv39.specs.declared.entries.Mapping.{Mapping}
 use Rattle.osc_sv39.specs.Walk.{walk, frame_allowed, put_word, word_at}
@@ -50,9 +50,10 @@ GivingKeeps =
 abbrev pub free_frames : List Bool → ℕ
 free_frames free = count_by (λ b. b) free
 
--- a mapping takes as many frames as are needed, and no other page changes
+-- a mapping takes as many frames as are needed, the topmost table stays, and no other page changes
 pub record MapsPage (number : ℕ) (mapping : Mapping) (c d : Changed) : Type 0 where
   pub root : root_of d.tables ≡ root_of c.tables
+  pub top : d.tables.top ≡ c.tables.top
   pub taken : free_frames d.free + need c.tables number 1 ≡ free_frames c.free
   pub pages : (q : ℕ) → mapping_at d.tables.pages q ≡ (if number == q then Some mapping else mapping_at c.tables.pages q)
 
@@ -70,6 +71,32 @@ MappingsTakeNeed =
     → root_of c.tables ≡ Some root → number + length mappings ≤ 512 ^ levels_of c.tables
     → need c.tables number (length mappings) ≤ free_frames c.free
     → free_frames (map_pages number mappings c).free + need c.tables number (length mappings) ≡ free_frames c.free
+
+-- what ascending pages need is what the first one needs, and what the rest needs once it is mapped
+abbrev pub NeedSplits : Type 0
+NeedSplits =
+    (number root more : ℕ) (mapping : Mapping) (c : Changed)
+    → root_of c.tables ≡ Some root → number + more < 512 ^ levels_of c.tables
+    → need c.tables number 1 ≤ free_frames c.free
+    → need c.tables number (suc more) ≡ need c.tables number 1 + need (map_page number mapping c).tables (number + 1) more
+
+-- the mapping that so many pages from a number on give the page q, or else what it had
+abbrev pub mapped_among : ℕ → List Mapping → ℕ → Option Mapping → Option Mapping
+mapped_among number mappings q was =
+    if nat_le number q && nat_lt q (number + length mappings) then slice_get mappings (q - number) else was
+
+-- each of the pages is mapped as asked, the topmost table stays, and no other page changes
+pub record MapsPages (number : ℕ) (mappings : List Mapping) (c d : Changed) : Type 0 where
+  pub root : root_of d.tables ≡ root_of c.tables
+  pub top : d.tables.top ≡ c.tables.top
+  pub pages : (q : ℕ) → mapping_at d.tables.pages q ≡ mapped_among number mappings q (mapping_at c.tables.pages q)
+
+abbrev pub MappingsMapPages : Type 0
+MappingsMapPages =
+    (number root : ℕ) (mappings : List Mapping) (c : Changed)
+    → root_of c.tables ≡ Some root → number + length mappings ≤ 512 ^ levels_of c.tables
+    → need c.tables number (length mappings) ≤ free_frames c.free
+    → MapsPages number mappings c (map_pages number mappings c)
 
 -- a store in a frame that is no table, and the zeroing of one, change nothing
 pub record KeepsElsewhere (t : KeptTables) (free : List Bool) (words : List ℕ) (frame : ℕ) : Type 0 where

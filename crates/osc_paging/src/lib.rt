@@ -6,8 +6,9 @@
 mod laws;
 
 pub use laws::{
-    changes_keep_agreement, look_finds_latest, mapping_takes_need, stores_elsewhere_keep,
-    tables_stand_above, walk_gives_mapping,
+    changes_keep_agreement, changes_keep_others, copying_agrees, look_finds_latest,
+    mapping_takes_need, stores_elsewhere_keep, tables_stand_above, walk_gives_mapping,
+    work_elsewhere_keeps,
 };
 use osc_sv39::Mapping;
 

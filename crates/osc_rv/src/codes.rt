@@ -2,7 +2,9 @@
 ghost use Rattle.std.specs.Prelude.{◌≡◌, ◌<◌};
 ghost use Rattle.osc_rv.specs.Codes.{upper_opcode, branch_funct3, branch_at, load_funct3, load_at, store_funct3, store_at, imm_opcode, imm_funct3, imm_at, shift_funct3, shift_funct6, shift_at, reg_opcode, reg_funct3, reg_funct7, reg_at, mul_opcode, mul_funct3, mul_at, amo_funct5, amo_at, width_funct3, width_at};
 
-use crate::instr::{AmoOp, BranchKind, ImmOp, LoadKind, MulOp, RegOp, ShiftOp, StoreKind, UpperOp, Width};
+use crate::instr::{
+    AmoOp, BranchKind, ImmOp, LoadKind, MulOp, RegOp, ShiftOp, StoreKind, UpperOp, Width,
+};
 
 pub(crate) const LOAD: u32 = 0x03;
 

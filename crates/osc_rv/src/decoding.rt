@@ -5,8 +5,8 @@ ghost use Rattle.osc_rv.specs.Formats.{s_imm, b_half, j_half, fence_bits};
 ghost use Rattle.osc_rv.specs.Instr.{instr_of, word_of, opcode_of, upper_of, jal_of, jalr_of, branch_of, load_of, store_of, imm_of, shift_of, shift_w_of, reg_of, mul_of, fence_of, system_of, atomic_of, funct3_of};
 
 use crate::codes::{
-    AMO, AUIPC, BRANCH, EBREAK, ECALL, JAL, JALR, LOAD, LR, LUI, MISC_MEM, MULDIV, OP,
-    OP_32, OP_IMM, OP_IMM_32, SC, STORE, SYSTEM,
+    AMO, AUIPC, BRANCH, EBREAK, ECALL, JAL, JALR, LOAD, LR, LUI, MISC_MEM, MULDIV, OP, OP_32,
+    OP_IMM, OP_IMM_32, SC, STORE, SYSTEM,
 };
 use crate::field::{Field, bits_of};
 use crate::instr::{
@@ -14,8 +14,8 @@ use crate::instr::{
 };
 
 /// The instruction of `word` by the RISC-V Unprivileged manual, "RV32/64G Instruction Set Listings"
-/// (RV32I, RV64I, Zifencei, RV32M, RV64M, RV32A, RV64A); None exactly where they have no such word. Whatever it
-/// reads, `encode` writes back.
+/// (RV32I, RV64I, Zifencei, RV32M, RV64M, RV32A, RV64A); None exactly where they have no such word.
+/// Whatever it reads, `encode` writes back.
 pub fn decode(word: u32) -> Option<Instr>
     ensures instr { result ≡ instr_of word }
     ensures written_back { IfSome result (λ instr. word_of instr ≡ word) }

@@ -1,12 +1,13 @@
 -- The laws of objects, by induction over their list.
-use Rattle.std.proofs.Common.{ℕ, zero, suc, ◌+◌, ◌*◌, ◌%◌, ◌≡◌, ◌<◌, ◌≤◌, ◌&&◌, Bool, false, Some, List, [], ◌∷◌, ◌++◌, slice_get, arith, refl}
-use Rattle.std.specs.List.{list_any}
+use Rattle.std.proofs.Common.{ℕ, zero, suc, ◌+◌, ◌*◌, ◌%◌, ◌==◌, ◌≡◌, ◌<◌, ◌≤◌, ◌&&◌, Bool, true, false, cond, not, nat_lt, Option, Some, None, List, [], ◌∷◌, ◌++◌, length, position, slice_get, arith, refl, ap, sym, subst, ◌∙◌}
+use Rattle.std.specs.Prelude.{option_map, option_and_then}
+use Rattle.std.specs.List.{list_any, position_or_len}
 use Rattle.std.proofs.lemmas.Bool.Decides.{nat_tests}
 use Rattle.std.proofs.lemmas.List.Sums.{sum_by-cons, sum_by_push}
 use Rattle.osc_space.specs.declared.ObjectFact.{ObjectFact}
-use Rattle.osc_space.specs.Ranges.{first_shadow_page, is_within}
-use Rattle.osc_space.specs.Objects.{mark, next_page, granted_at, grant, killed, kill, has_page, is_live, is_in_leaf}
-use Rattle.osc_space.specs.ObjectLaws.{GrantedFrom, AreGranted, GrantsKeep, PagesAreGrantedOnce, DeadLeavesAreDead}
+use Rattle.osc_word.specs.AddressMap.{first_shadow_page, is_within}
+use Rattle.osc_space.specs.Objects.{GrantedFrom, AreGranted, Seen, fact, seen_as, object_seen, object_at, mark, next_page, granted_at, grant, killed, kill, has_page, is_live, is_in_leaf}
+use Rattle.osc_space.specs.ObjectLaws.{GrantsKeep, PagesAreGrantedOnce, DeadLeavesAreDead, LooksFindObjects}
 
 mark-cons : (o : ObjectFact) (objects : List ObjectFact) → mark (o ∷ objects) ≡ o.pages + mark objects
 mark-cons o objects = sum_by-cons (λ (o : ObjectFact). o.pages) o objects
@@ -103,3 +104,90 @@ dead_leaves_are_dead objects leaf g = record {
       let last = (h (512 * leaf + 511) (omega arith) (omega arith)).0 in
       grind (arith, nat_tests, none, first, last);
 }
+
+-- ---- looks
+after_first : (b : Bool) (n len : ℕ) → cond (nat_lt (cond (not b) (1 + n) 0) (suc len)) (Some (cond (not b) (1 + n) 0)) None ≡ cond b (Some 0) (option_map (λ i. suc i) (cond (nat_lt n len) (Some n) None))
+after_first true n len = let e : nat_lt 0 (suc len) ≡ true = grind (arith, nat_tests) in rw e refl
+after_first false n len = go (nat_lt n len) refl
+  where
+    go : (c : Bool) → nat_lt n len ≡ c → cond (nat_lt (1 + n) (suc len)) (Some (1 + n)) None ≡ option_map (λ i. suc i) (cond c (Some n) None)
+    go true e = let f : nat_lt (1 + n) (suc len) ≡ true = grind (arith, nat_tests, e) in let g : 1 + n ≡ suc n = omega arith in rw f (ap Some g)
+    go false e = let f : nat_lt (1 + n) (suc len) ≡ false = grind (arith, nat_tests, e) in rw f refl
+
+position_cons : (p : ObjectFact → Bool) (x : ObjectFact) (xs : List ObjectFact) → position p (x ∷ xs) ≡ cond (p x) (Some 0) (option_map (λ i. suc i) (position p xs))
+position_cons p x xs = after_first (p x) (position_or_len p xs) (length xs)
+
+-- what the first that passes is
+record Passes (p : ObjectFact → Bool) (objects : List ObjectFact) (i : ℕ) : Type 0 where
+  of : ObjectFact
+  there : slice_get objects i ≡ Some of
+  passes : p of ≡ true
+
+passes : (p : ObjectFact → Bool) (objects : List ObjectFact) (i : ℕ) → position p objects ≡ Some i → Passes p objects i
+passes p [] i e = cc
+passes p (x ∷ xs) i e = go (p x) refl (position p xs) refl (sym (position_cons p x xs) ∙ e) (passes p xs)
+  where
+    go : (b : Bool) → p x ≡ b → (o : Option ℕ) → position p xs ≡ o → cond b (Some 0) (option_map (λ i. suc i) o) ≡ Some i → ((j : ℕ) → position p xs ≡ Some j → Passes p xs j) → Passes p (x ∷ xs) i
+    go true h o k f rest = let is : 0 ≡ i = cc in subst (λ j. Passes p (x ∷ xs) j) is (record { of = x; there = refl; passes = h })
+    go false h None k f rest = cc
+    go false h (Some j) k f rest =
+        let is : suc j ≡ i = cc in
+        let r = rest j k in subst (λ j. Passes p (x ∷ xs) j) is (record { of = r.of; there = r.there; passes = r.passes })
+
+only_one : (p : ObjectFact → Bool) (objects : List ObjectFact) (i : ℕ) (o : ObjectFact) → slice_get objects i ≡ Some o → p o ≡ true → ((j : ℕ) (q : ObjectFact) → slice_get objects j ≡ Some q → p q ≡ true → j ≡ i) → position p objects ≡ Some i
+only_one p [] i o e h u = cc
+only_one p (x ∷ xs) zero o e h u =
+    let is : o ≡ x = cc in
+    let t : p x ≡ true = subst (λ y. p y ≡ true) is h in
+    position_cons p x xs ∙ ap (λ b. cond b (Some 0) (option_map (λ i. suc i) (position p xs))) t
+only_one p (x ∷ xs) (suc i) o e h u =
+    position_cons p x xs ∙ go (p x) refl (only_one p xs i o e h (λ j q f g. let k = u (suc j) q f g in omega (arith, k)))
+  where
+    go : (b : Bool) → p x ≡ b → position p xs ≡ Some i → cond b (Some 0) (option_map (λ i. suc i) (position p xs)) ≡ Some (suc i)
+    go true t rest = let k : 0 ≡ suc i = u 0 x refl t in absurd (omega (arith, k))
+    go false t rest = ap (λ o. option_map (λ i. suc i) o) rest
+
+seen_is : (p : ObjectFact → Bool) (objects : List ObjectFact) (s : Seen) → object_seen p objects ≡ Some s → (fact objects s.number ≡ Some s.fact) × (p s.fact ≡ true)
+seen_is p objects s e = go (position p objects) refl e
+  where
+    known : (i : ℕ) (o : ObjectFact) → fact objects i ≡ Some o → option_map (λ (x : ObjectFact). record { number = i; fact = x }) (fact objects i) ≡ Some s → (record { number = i; fact = o }) ≡ s
+    known i o t f = let g : Some (record { number = i; fact = o }) ≡ Some s = sym (ap (λ x. option_map (λ (x : ObjectFact). record { number = i; fact = x }) x) t) ∙ f in cc
+
+    go : (o : Option ℕ) → position p objects ≡ o → option_and_then (seen_as objects) o ≡ Some s → (fact objects s.number ≡ Some s.fact) × (p s.fact ≡ true)
+    go None k f = cc
+    go (Some i) k f =
+        let r = passes p objects i k in
+        subst (λ t. (fact objects t.number ≡ Some t.fact) × (p t.fact ≡ true)) (known i r.of r.there f) (r.there, r.passes)
+
+seen_only : (p : ObjectFact → Bool) (objects : List ObjectFact) (s : Seen) → fact objects s.number ≡ Some s.fact → p s.fact ≡ true → ((j : ℕ) (q : ObjectFact) → slice_get objects j ≡ Some q → p q ≡ true → j ≡ s.number) → object_seen p objects ≡ Some s
+seen_only p objects s e h u =
+    ap (λ o. option_and_then (seen_as objects) o) (only_one p objects s.number s.fact e h u)
+    ∙ ap (λ o. option_map (λ (x : ObjectFact). record { number = s.number; fact = x }) o) e
+
+on_one_page : (objects : List ObjectFact) (a b page : ℕ) (o p : ObjectFact) → AreGranted objects → slice_get objects a ≡ Some o → slice_get objects b ≡ Some p → has_page page o ≡ true → has_page page p ≡ true → a ≡ b
+on_one_page objects a b page o p g e f h k =
+    grind (arith, nat_tests, h, k, ascending first_shadow_page objects a b o p g, ascending first_shadow_page objects b a p o g, e, f)
+
+no_user_zero : (objects : List ObjectFact) (s : Seen) → AreGranted objects → fact objects s.number ≡ Some s.fact → 0 < s.fact.user
+no_user_zero objects s g e =
+    let w = within first_shadow_page objects s.number s.fact g e in
+    let u = user_of first_shadow_page objects s.number s.fact g e in
+    let l = w.0 in let v = u.1 in omega (arith, l, v)
+
+pub looks_find_objects : LooksFindObjects
+looks_find_objects objects g = record {
+  at = λ user s e. let k = seen_is (λ (o : ObjectFact). o.user == user) objects s e in (k.0, let h = k.1 in grind (arith, nat_tests, h));
+  on = λ page s e. seen_is (has_page page) objects s e;
+  by_user = λ s e.
+      seen_only (λ (o : ObjectFact). o.user == s.fact.user) objects s e (grind (arith, nat_tests))
+      (λ j q f h. addresses objects j s.number q s.fact g f e (grind (arith, nat_tests, h)));
+  by_page = λ page s e h. seen_only (has_page page) objects s e h (λ j q f k. on_one_page objects j s.number page q s.fact g f e k h);
+  nowhere = go (object_at objects 0) refl;
+}
+  where
+    go : (o : Option Seen) → object_at objects 0 ≡ o → o ≡ None
+    go None e = refl
+    go (Some s) e =
+        let k = seen_is (λ (o : ObjectFact). o.user == 0) objects s e in
+        let l = no_user_zero objects s g k.0 in
+        let h = k.1 in absurd (grind (arith, nat_tests, h, l))

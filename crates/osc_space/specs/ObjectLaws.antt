@@ -1,18 +1,9 @@
 -- The laws of objects and of the mark.
-use Rattle.std.specs.Prelude.{ℕ, ◌+◌, ◌*◌, ◌%◌, ◌≡◌, ◌<◌, ◌≤◌, true, false, Some, List, [], ◌∷◌, slice_get}
+use Rattle.std.specs.Prelude.{ℕ, ◌+◌, ◌*◌, ◌≡◌, ◌<◌, ◌≤◌, true, false, Some, None, List, [], slice_get}
 use Rattle.std.specs.List.{list_any}
 use Rattle.osc_space.specs.declared.ObjectFact.{ObjectFact}
-use Rattle.osc_space.specs.Ranges.{first_shadow_page, is_within}
-use Rattle.osc_space.specs.Objects.{mark, next_page, grant, kill, has_page, is_live_page, leaf_dead}
-
--- the pages of each object begin where those of the one before end
-abbrev pub GrantedFrom : ℕ → List ObjectFact → Type 0
-GrantedFrom page [] = Unit {0}
-GrantedFrom page (o ∷ objects) =
-    (o.first ≡ page) × (0 < o.pages) × (o.user ≡ o.first * 4096 + o.canon % 4096) × GrantedFrom (page + o.pages) objects
-
-abbrev pub AreGranted : List ObjectFact → Type 0
-AreGranted objects = GrantedFrom first_shadow_page objects
+use Rattle.osc_word.specs.AddressMap.{first_shadow_page, is_within}
+use Rattle.osc_space.specs.Objects.{AreGranted, Seen, fact, object_at, object_on, mark, next_page, grant, kill, has_page, is_live_page, leaf_dead}
 
 -- a grant raises the mark by its pages, and a death leaves it
 pub record GrantsKeep : Type 0 where
@@ -49,3 +40,16 @@ pub record LeafDeadMeans (objects : List ObjectFact) (number : ℕ) : Type 0 whe
 
 abbrev pub DeadLeavesAreDead : Type 0
 DeadLeavesAreDead = (objects : List ObjectFact) (leaf : ℕ) → AreGranted objects → LeafDeadMeans objects leaf
+
+-- a look gives an object that is as was asked; it finds each by its address and on each of its pages,
+-- and none at the address 0
+pub record LooksFind (objects : List ObjectFact) : Type 0 where
+  pub at : (user : ℕ) (s : Seen) → object_at objects user ≡ Some s → (fact objects s.number ≡ Some s.fact) × (s.fact.user ≡ user)
+  pub on : (page : ℕ) (s : Seen) → object_on objects page ≡ Some s → (fact objects s.number ≡ Some s.fact) × (has_page page s.fact ≡ true)
+  pub by_user : (s : Seen) → fact objects s.number ≡ Some s.fact → object_at objects s.fact.user ≡ Some s
+  pub by_page : (page : ℕ) (s : Seen) → fact objects s.number ≡ Some s.fact → has_page page s.fact ≡ true
+      → object_on objects page ≡ Some s
+  pub nowhere : object_at objects 0 ≡ None
+
+abbrev pub LooksFindObjects : Type 0
+LooksFindObjects = (objects : List ObjectFact) → AreGranted objects → LooksFind objects

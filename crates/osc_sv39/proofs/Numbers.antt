@@ -1,5 +1,5 @@
 -- The numbers VPN are bits of the address.
-use Rattle.std.proofs.Common.{ℕ, ◌≡◌, ◌≤◌, ◌<◌, ◌/◌, ◌%◌, ◌^◌, ◌==◌, ◌∷◌, [], Bool, true, false, cond, arith, refl, IsTrue}
+use Rattle.std.proofs.Common.{ℕ, ◌≡◌, ◌/◌, ◌%◌, ◌^◌, ◌==◌, ◌∷◌, [], Bool, true, false, cond, arith, refl}
 use Rattle.std.proofs.lemmas.Bool.Decides.{nat_tests}
 use Rattle.osc_sv39.specs.Walk.{IsLevels, numbers_of, number_of}
 

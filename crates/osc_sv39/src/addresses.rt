@@ -37,10 +37,6 @@ pub fn split(va: u64, levels: u8) -> Option<[u16; 4]>
     if !is_canonical(va, levels) {
         return None;
     }
-    let top = if levels == 3 {
-        0
-    } else {
-        number_at(va, 39)
-    };
+    let top = if levels == 3 { 0 } else { number_at(va, 39) };
     Some([top, number_at(va, 30), number_at(va, 21), number_at(va, 12)])
 }

@@ -1,31 +1,49 @@
--- Canonical pages and their numbers, at three levels.
-use Rattle.std.proofs.Common.{ℕ, suc, ◌≡◌, ◌≢◌, ◌<◌, ◌≤◌, ◌+◌, ◌-◌, ◌%◌, ◌==◌, ltb, Bool, true, false, cond, List, [], ◌∷◌, Option, Some, None, IsTrue, arith, refl, sym, ◌∙◌, subst, length, get_or, ◌⊎◌, ⊎_elim}
+-- Canonical pages and their numbers.
+use Rattle.std.proofs.Common.{ℕ, suc, ◌≡◌, ◌≢◌, ◌<◌, ◌≤◌, ◌+◌, ◌-◌, ◌^◌, ◌==◌, ltb, Bool, true, false, cond, List, [], ◌∷◌, Option, Some, None, IsTrue, arith, refl, sym, ◌∙◌, subst, length, get_or, ◌⊎◌, ⊎_elim}
 use Rattle.std.specs.Prelude.{IsSome}
 use Rattle.std.proofs.lemmas.Bool.Decides.{nat_tests}
 use Rattle.osc_sv39.specs.Walk.{is_canonical, number_of}
 use Rattle.osc_sv39.specs.declared.entries.Mapping.{Mapping}
 use Rattle.osc_paging.specs.declared.Mapped.{Mapped}
-use Rattle.osc_paging.specs.KeptTables.{KeptTables, page_numbered, mapping_at, mapping_of}
-use Rattle.osc_tables.specs.Inside.{AscendWithin}
-use Rattle.osc_tables.specs.Places.{place_for, least_from}
+use Rattle.osc_paging.specs.KeptTables.{KeptTables, levels_of, canonical_page, page_numbered, mapping_at, mapping_of}
+use Rattle.osc_tables.specs.Inside.{IsTop, AscendFrom, PagesBelow}
+use Rattle.osc_tables.specs.Places.{half, place_for, least_from}
 use Rattle.osc_tables.specs.Calls.{AllCanonical, IsNextPage, MapsTo, NoneFrom}
+use Rattle.osc_tables.proofs.KeptFacts.{at_top}
 use Rattle.osc_tables.proofs.PagePlaces.{mapping_at-found, ascends-high}
 
 -- a canonical page lies in the lower or in the upper half
-pub record Halves (q : ℕ) : Type 0 where
-  pub half : (q < 67108864) ⊎ ((4503599560261632 ≤ q) × (q < 4503599627370496))
+pub record Halves (top q : ℕ) : Type 0 where
+  pub half : (q < half top) ⊎ ((4503599627370496 - half top ≤ q) × (q < 4503599627370496))
 
-halves : (q : ℕ) → is_canonical 3 q ≡ true → Halves q
-halves q e = record { half = grind (arith, nat_tests, e) }
+pub halves : (top q : ℕ) → IsTop top → is_canonical (suc top) q ≡ true → Halves top q
+halves top q range = at_top (λ t. is_canonical (suc t) q ≡ true → Halves t q) top range
+    (λ e. record { half = grind (arith, nat_tests, e) })
+    (λ e. record { half = grind (arith, nat_tests, e) })
 
-canonical : (q : ℕ) → Halves q → is_canonical 3 q ≡ true
-canonical q h = grind (arith, nat_tests, h.half)
+canonical : (top q : ℕ) → IsTop top → Halves top q → is_canonical (suc top) q ≡ true
+canonical top q range = at_top (λ t. Halves t q → is_canonical (suc t) q ≡ true) top range
+    (λ h. grind (arith, nat_tests, h.half))
+    (λ h. grind (arith, nat_tests, h.half))
 
-pub numbered_back : (q : ℕ) → is_canonical 3 q ≡ true → page_numbered 3 (number_of 3 q) ≡ q
-numbered_back q e = let h = halves q e in grind (arith, nat_tests, h.half)
+pub numbered_back : (top q : ℕ) → IsTop top → is_canonical (suc top) q ≡ true → canonical_page (suc top) (number_of (suc top) q) ≡ q
+numbered_back top q range e = at_top (λ t. Halves t q → canonical_page (suc t) (number_of (suc t) q) ≡ q) top range
+    (λ h. grind (arith, nat_tests, h.half))
+    (λ h. grind (arith, nat_tests, h.half))
+    (halves top q range e)
 
-pub numbered : (n : ℕ) → n < 134217728 → (is_canonical 3 (page_numbered 3 n) ≡ true) × (number_of 3 (page_numbered 3 n) ≡ n)
-numbered n s = (canonical (page_numbered 3 n) (record { half = grind (arith, nat_tests) }), grind (arith, nat_tests))
+numbered_half : (top n : ℕ) → IsTop top → n < 512 ^ suc top → Halves top (canonical_page (suc top) n)
+numbered_half top n range = at_top (λ t. n < 512 ^ suc t → Halves t (canonical_page (suc t) n)) top range
+    (λ s. record { half = grind (arith, nat_tests, s) })
+    (λ s. record { half = grind (arith, nat_tests, s) })
+
+numbered_same : (top n : ℕ) → IsTop top → n < 512 ^ suc top → number_of (suc top) (canonical_page (suc top) n) ≡ n
+numbered_same top n range = at_top (λ t. n < 512 ^ suc t → number_of (suc t) (canonical_page (suc t) n) ≡ n) top range
+    (λ s. grind (arith, nat_tests, s))
+    (λ s. grind (arith, nat_tests, s))
+
+pub numbered : (top n : ℕ) → IsTop top → n < 512 ^ suc top → (is_canonical (suc top) (canonical_page (suc top) n) ≡ true) × (number_of (suc top) (canonical_page (suc top) n) ≡ n)
+numbered top n range s = (canonical top (canonical_page (suc top) n) range (numbered_half top n range s), numbered_same top n range s)
 
 either : (a b : ℕ) → (a ≤ b) ⊎ (b < a)
 either a b = grind arith
@@ -33,53 +51,72 @@ either a b = grind arith
 no_true : false ≡ true → ⊥
 no_true e = cc
 
+-- pages that are all on a side of a place that is not canonical end before it
+ends_before : (top first count place : ℕ) → first < place → is_canonical (suc top) place ≡ false → AllCanonical (suc top) first count → first + count ≤ place
+ends_before top first count place s none all = ⊎_elim
+    (λ (fits : first + count ≤ place). fits)
+    (λ (over : place < first + count).
+    (let q : first + (place - first) ≡ place = omega arith in
+    let bad : IsTrue (is_canonical (suc top) place) = rw q at (all (place - first) (omega arith)) in
+    absurd (no_true (rw none at bad))))
+    (either (first + count) place)
+
+-- the pages at the ends of the halves are not canonical
+ends : (top : ℕ) → IsTop top → (is_canonical (suc top) (half top) ≡ false) × (is_canonical (suc top) 4503599627370496 ≡ false)
+ends top range = at_top (λ t. (is_canonical (suc t) (half t) ≡ false) × (is_canonical (suc t) 4503599627370496 ≡ false)) top range (refl, refl) (refl, refl)
+
 -- many canonical pages lie in one half
-pub one_half : (first count : ℕ) → 0 < count → AllCanonical 3 first count → first % 134217728 + count ≤ 134217728
-one_half first count s all = ⊎_elim low high (halves first (rw here at (all 0 s))).half
+pub one_half : (top first count : ℕ) → IsTop top → 0 < count → AllCanonical (suc top) first count → number_of (suc top) first + count ≤ 512 ^ suc top
+one_half top first count range s all = ⊎_elim low high (halves top first range (rw here at (all 0 s))).half
   where
     here : first + 0 ≡ first
     here = omega arith
 
-    low : first < 67108864 → first % 134217728 + count ≤ 134217728
-    low l = ⊎_elim
-        (λ (fits : first + count ≤ 67108864). omega arith)
-        (λ (over : 67108864 < first + count).
-        (let q : first + (67108864 - first) ≡ 67108864 = omega arith in
-        let bad : IsTrue (is_canonical 3 67108864) = rw q at (all (67108864 - first) (omega arith)) in
-        absurd (no_true bad)))
-        (either (first + count) 67108864)
+    low : first < half top → number_of (suc top) first + count ≤ 512 ^ suc top
+    low l = at_top (λ t. first < half t → first + count ≤ half t → number_of (suc t) first + count ≤ 512 ^ suc t) top range
+        (λ a b. omega arith) (λ a b. omega arith) l
+        (ends_before top first count (half top) l (ends top range).0 all)
 
-    high : (4503599560261632 ≤ first) × (first < 4503599627370496) → first % 134217728 + count ≤ 134217728
-    high l = ⊎_elim
-        (λ (fits : first + count ≤ 4503599627370496). omega (arith, l.0, l.1))
-        (λ (over : 4503599627370496 < first + count).
-        (let q : first + (4503599627370496 - first) ≡ 4503599627370496 = omega (arith, l.1) in
-        let bad : IsTrue (is_canonical 3 4503599627370496) = rw q at (all (4503599627370496 - first) (omega (arith, l.1))) in
-        absurd (no_true bad)))
-        (either (first + count) 4503599627370496)
+    high : (4503599627370496 - half top ≤ first) × (first < 4503599627370496) → number_of (suc top) first + count ≤ 512 ^ suc top
+    high l = at_top (λ t. 4503599627370496 - half t ≤ first → first + count ≤ 4503599627370496 → number_of (suc t) first + count ≤ 512 ^ suc t) top range
+        (λ a b. omega arith) (λ a b. omega arith) l.0
+        (ends_before top first count 4503599627370496 l.1 (ends top range).1 all)
 
 -- ---- the least page from another on
-pub none_from : (from q : ℕ) → least_from from ≡ None → from ≤ q → is_canonical 3 q ≡ false
-none_from from q e s = grind (arith, nat_tests, e)
+pub none_from : (top from q : ℕ) → IsTop top → least_from top from ≡ None → from ≤ q → is_canonical (suc top) q ≡ false
+none_from top from q range = at_top (λ t. least_from t from ≡ None → from ≤ q → is_canonical (suc t) q ≡ false) top range
+    (λ e s. grind (arith, nat_tests, e))
+    (λ e s. grind (arith, nat_tests, e))
 
-pub some_from : (from q n : ℕ) → least_from from ≡ Some n → is_canonical 3 q ≡ true → (from ≤ q → n ≤ number_of 3 q) × (n ≤ number_of 3 q → from ≤ q) × (n < 134217728)
-some_from from q n e c = let h = halves q c in (grind (arith, nat_tests, e, h.half), grind (arith, nat_tests, e, h.half), grind (arith, nat_tests, e))
+-- the number from another page on
+pub record StartsAt (top from q n : ℕ) : Type 0 where
+  pub up : from ≤ q → n ≤ number_of (suc top) q
+  pub back : n ≤ number_of (suc top) q → from ≤ q
+  pub small : n < 512 ^ suc top
 
-rises : (a b : ℕ) → a ≤ b → page_numbered 3 a ≤ page_numbered 3 b
-rises a b s = grind (arith, nat_tests)
+pub some_from : (top from q n : ℕ) → IsTop top → least_from top from ≡ Some n → is_canonical (suc top) q ≡ true → StartsAt top from q n
+some_from top from q n range e c = at_top (λ t. least_from t from ≡ Some n → Halves t q → StartsAt t from q n) top range
+    (λ e h. record { up = grind (arith, nat_tests, e, h.half); back = grind (arith, nat_tests, e, h.half); small = grind (arith, nat_tests, e) })
+    (λ e h. record { up = grind (arith, nat_tests, e, h.half); back = grind (arith, nat_tests, e, h.half); small = grind (arith, nat_tests, e) })
+    e (halves top q range c)
+
+rises : (top a b : ℕ) → IsTop top → a ≤ b → canonical_page (suc top) a ≤ canonical_page (suc top) b
+rises top a b range = at_top (λ t. a ≤ b → canonical_page (suc t) a ≤ canonical_page (suc t) b) top range
+    (λ s. grind (arith, nat_tests))
+    (λ s. grind (arith, nat_tests))
 
 -- ---- the least mapped page from a number on
-mapped_above : (low high k : ℕ) (ms : List Mapped) → AscendWithin low high ms → mapping_at ms k ≢ None → low ≤ k
-mapped_above low high k [] a h = absurd (h refl)
-mapped_above low high k (m ∷ ms) a h = pick (m.number == k) refl (mapped_above (suc m.number) high k ms a.2)
+mapped_above : (low k : ℕ) (ms : List Mapped) → AscendFrom low ms → mapping_at ms k ≢ None → low ≤ k
+mapped_above low k [] a h = absurd (h refl)
+mapped_above low k (m ∷ ms) a h = pick (m.number == k) refl (mapped_above (suc m.number) k ms a.1)
   where
     pick : (b : Bool) → (m.number == k) ≡ b → (mapping_at ms k ≢ None → suc m.number ≤ k) → low ≤ k
     pick true e on = let d : m.number ≡ k = grind (arith, nat_tests, e) in omega (arith, a.0)
     pick false e on = let d = on (rw e at h) in omega (arith, a.0)
 
-least_at : (low high n k : ℕ) (ms : List Mapped) (d : Mapped) → AscendWithin low high ms → n ≤ k → mapping_at ms k ≢ None → (place_for n ms < length ms) × ((get_or ms (place_for n ms) d).number ≤ k)
-least_at low high n k [] d a s h = absurd (h refl)
-least_at low high n k (m ∷ ms) d a s h = pick (ltb m.number n) refl (least_at (suc m.number) high n k ms d a.2 s)
+least_at : (low n k : ℕ) (ms : List Mapped) (d : Mapped) → AscendFrom low ms → n ≤ k → mapping_at ms k ≢ None → (place_for n ms < length ms) × ((get_or ms (place_for n ms) d).number ≤ k)
+least_at low n k [] d a s h = absurd (h refl)
+least_at low n k (m ∷ ms) d a s h = pick (ltb m.number n) refl (least_at (suc m.number) n k ms d a.1 s)
   where
     pick : (b : Bool) → ltb m.number n ≡ b → (mapping_at ms k ≢ None → (place_for n ms < length ms) × ((get_or ms (place_for n ms) d).number ≤ k)) → (place_for n (m ∷ ms) < length (m ∷ ms)) × ((get_or (m ∷ ms) (place_for n (m ∷ ms)) d).number ≤ k)
     pick true e on =
@@ -90,7 +127,7 @@ least_at low high n k (m ∷ ms) d a s h = pick (ltb m.number n) refl (least_at 
       where
         first : (b : Bool) → (m.number == k) ≡ b → m.number ≤ k
         first true f = grind (arith, nat_tests, f)
-        first false f = let up = mapped_above (suc m.number) high k ms a.2 (rw f at h) in omega arith
+        first false f = let up = mapped_above (suc m.number) k ms a.1 (rw f at h) in omega arith
 
 stands_above : (n : ℕ) (ms : List Mapped) (d : Mapped) → place_for n ms < length ms → n ≤ (get_or ms (place_for n ms) d).number
 stands_above n [] d s = absurd (omega arith)
@@ -105,67 +142,70 @@ some_there None h = cc
 some_there (Some m) h = λ e. cc
 
 -- what may be read of a page that is mapped
-pub canonical_mapped : (t : KeptTables) (q : ℕ) → IsSome (mapping_of 3 t q) → (is_canonical 3 q ≡ true) × (mapping_at t.pages (number_of 3 q) ≢ None)
-canonical_mapped t q h = pick (is_canonical 3 q) refl
+pub canonical_mapped : (t : KeptTables) (q : ℕ) → IsSome (mapping_of t q) → (is_canonical (levels_of t) q ≡ true) × (mapping_at t.pages (number_of (levels_of t) q) ≢ None)
+canonical_mapped t q h = pick (is_canonical (levels_of t) q) refl
   where
-    pick : (b : Bool) → is_canonical 3 q ≡ b → (is_canonical 3 q ≡ true) × (mapping_at t.pages (number_of 3 q) ≢ None)
+    pick : (b : Bool) → is_canonical (levels_of t) q ≡ b → (is_canonical (levels_of t) q ≡ true) × (mapping_at t.pages (number_of (levels_of t) q) ≢ None)
     pick true e = (e, some_there _ (rw e at h))
     pick false e = absurd (some_there None (rw e at h) refl)
 
-unmapped : (t : KeptTables) (q : ℕ) → (IsSome (mapping_of 3 t q) → ⊥) → mapping_of 3 t q ≡ None
-unmapped t q h = pick (mapping_of 3 t q) h
+unmapped : (t : KeptTables) (q : ℕ) → (IsSome (mapping_of t q) → ⊥) → mapping_of t q ≡ None
+unmapped t q h = pick (mapping_of t q) h
   where
     pick : (x : Option Mapping) → (IsSome x → ⊥) → x ≡ None
     pick None h = refl
     pick (Some m) h = absurd (h refl)
 
-pub no_page_from : (t : KeptTables) (from : ℕ) → least_from from ≡ None → NoneFrom 3 t from
-no_page_from t from e q s = rw (none_from from q e s) refl
+pub no_page_from : (t : KeptTables) (from : ℕ) → IsTop t.top → least_from t.top from ≡ None → NoneFrom t from
+no_page_from t from range e q s = rw (none_from t.top from q range e s) refl
 
-pub no_next_page : (t : KeptTables) (from n : ℕ) → AscendWithin 0 134217728 t.pages → least_from from ≡ Some n → length t.pages ≤ place_for n t.pages → NoneFrom 3 t from
-no_next_page t from n a e p q s = unmapped t q (λ h. (let m = canonical_mapped t q h in let b = some_from from q n e m.0 in let r = least_at 0 134217728 n (number_of 3 q) t.pages spare_page a (b.0 s) m.1 in absurd (omega (arith, r.0))))
+pub no_next_page : (t : KeptTables) (from n : ℕ) → IsTop t.top → AscendFrom 0 t.pages → least_from t.top from ≡ Some n → length t.pages ≤ place_for n t.pages → NoneFrom t from
+no_next_page t from n range a e p q s = unmapped t q (λ h. (let m = canonical_mapped t q h in let b = some_from t.top from q n range e m.0 in let r = least_at 0 n (number_of (levels_of t) q) t.pages spare_page a (b.up s) m.1 in absurd (omega (arith, r.0))))
   where
     spare_page : Mapped
     spare_page = record { number = 0; mapping = record { frame = 0; bits = record { 0 = 0 } } }
 
-pub next_page_at : (t : KeptTables) (from n : ℕ) (d : Mapped) → AscendWithin 0 134217728 t.pages → least_from from ≡ Some n → place_for n t.pages < length t.pages → IsNextPage 3 t from (page_numbered 3 (get_or t.pages (place_for n t.pages) d).number)
-next_page_at t from n d a e p =
+pub next_page_at : (t : KeptTables) (from n : ℕ) (d : Mapped) → IsTop t.top → AscendFrom 0 t.pages → PagesBelow (512 ^ levels_of t) t.pages → least_from t.top from ≡ Some n → place_for n t.pages < length t.pages → IsNextPage t from (page_numbered t (get_or t.pages (place_for n t.pages) d).number)
+next_page_at t from n d range a w e p =
     let k = (get_or t.pages (place_for n t.pages) d).number in
-    let small : k < 134217728 = ascends-high 0 134217728 t.pages (place_for n t.pages) d a p in
-    let back = numbered k small in
+    let small : k < 512 ^ levels_of t = ascends-high (512 ^ levels_of t) t.pages (place_for n t.pages) d w p in
+    let back = numbered t.top k range small in
     let above = stands_above n t.pages d p in
-    let found = mapping_at-found 134217728 k t.pages (place_for n t.pages) d a p refl in
+    let found = mapping_at-found k t.pages (place_for n t.pages) d a p refl in
     record {
-      above = (some_from from (page_numbered 3 k) n e back.0).1 (rw back.1 above);
+      above = (some_from t.top from (page_numbered t k) n range e back.0).back (rw back.1 above);
       mapped = rw (back.0, back.1, found) refl;
       least = λ q s h. least_page k small q s (canonical_mapped t q h);
     }
   where
-    least_page : (k : ℕ) → k < 134217728 → (q : ℕ) → from ≤ q → (is_canonical 3 q ≡ true) × (mapping_at t.pages (number_of 3 q) ≢ None) → page_numbered 3 (get_or t.pages (place_for n t.pages) d).number ≤ q
+    least_page : (k : ℕ) → k < 512 ^ levels_of t → (q : ℕ) → from ≤ q → (is_canonical (levels_of t) q ≡ true) × (mapping_at t.pages (number_of (levels_of t) q) ≢ None) → page_numbered t (get_or t.pages (place_for n t.pages) d).number ≤ q
     least_page k small q s m =
-        let b = some_from from q n e m.0 in
-        let r = (least_at 0 134217728 n (number_of 3 q) t.pages d a (b.0 s) m.1).1 in
-        let up = rises (get_or t.pages (place_for n t.pages) d).number (number_of 3 q) r in
-        subst (λ x. page_numbered 3 (get_or t.pages (place_for n t.pages) d).number ≤ x) (numbered_back q m.0) up
+        let b = some_from t.top from q n range e m.0 in
+        let r = (least_at 0 n (number_of (levels_of t) q) t.pages d a (b.up s) m.1).1 in
+        let up = rises t.top (get_or t.pages (place_for n t.pages) d).number (number_of (levels_of t) q) range r in
+        subst (λ x. page_numbered t (get_or t.pages (place_for n t.pages) d).number ≤ x) (numbered_back t.top q range m.0) up
 
 -- the same of the page that stands at the place
-pub next_page_found : (t : KeptTables) (from n i : ℕ) (m : Mapped) → AscendWithin 0 134217728 t.pages → least_from from ≡ Some n → i ≡ place_for n t.pages → i < length t.pages → m ≡ get_or t.pages i m → IsNextPage 3 t from (page_numbered 3 m.number)
-next_page_found t from n i m a e p s d =
-    let h = rw (← p) at (next_page_at t from n m a e (rw (← p) s)) in
-    subst (λ (x : Mapped). IsNextPage 3 t from (page_numbered 3 x.number)) (sym d) h
+pub next_page_found : (t : KeptTables) (from n i : ℕ) (m : Mapped) → IsTop t.top → AscendFrom 0 t.pages → PagesBelow (512 ^ levels_of t) t.pages → least_from t.top from ≡ Some n → i ≡ place_for n t.pages → i < length t.pages → m ≡ get_or t.pages i m → IsNextPage t from (page_numbered t m.number)
+next_page_found t from n i m range a w e p s d =
+    let h = rw (← p) at (next_page_at t from n m range a w e (rw (← p) s)) in
+    subst (λ (x : Mapped). IsNextPage t from (page_numbered t x.number)) (sym d) h
 
-pub next_page_small : (ms : List Mapped) (i : ℕ) (m : Mapped) → AscendWithin 0 134217728 ms → i < length ms → m ≡ get_or ms i m → m.number < 134217728
-next_page_small ms i m a s d = subst (λ (x : Mapped). x.number < 134217728) (sym d) (ascends-high 0 134217728 ms i m a s)
+pub next_page_small : (high : ℕ) (ms : List Mapped) (i : ℕ) (m : Mapped) → PagesBelow high ms → i < length ms → m ≡ get_or ms i m → m.number < high
+next_page_small high ms i m a s d = subst (λ (x : Mapped). x.number < high) (sym d) (ascends-high high ms i m a s)
 
 -- ---- what is mapped after a change
-same_page : (p q : ℕ) → is_canonical 3 p ≡ true → is_canonical 3 q ≡ true → (number_of 3 p == number_of 3 q) ≡ (p == q)
-same_page p q e f = let h = halves p e in let k = halves q f in grind (arith, nat_tests, h.half, k.half)
+same_page : (top p q : ℕ) → IsTop top → is_canonical (suc top) p ≡ true → is_canonical (suc top) q ≡ true → (number_of (suc top) p == number_of (suc top) q) ≡ (p == q)
+same_page top p q range e f = at_top (λ t. Halves t p → Halves t q → (number_of (suc t) p == number_of (suc t) q) ≡ (p == q)) top range
+    (λ h k. grind (arith, nat_tests, h.half, k.half))
+    (λ h k. grind (arith, nat_tests, h.half, k.half))
+    (halves top p range e) (halves top q range f)
 
-pub maps_to : (t u : KeptTables) (page : ℕ) (x : Option Mapping) → is_canonical 3 page ≡ true → ((n : ℕ) → mapping_at u.pages n ≡ cond (number_of 3 page == n) x (mapping_at t.pages n)) → MapsTo 3 page x t u
-maps_to t u page x e h q = go (is_canonical 3 q) refl
+pub maps_to : (t u : KeptTables) (page : ℕ) (x : Option Mapping) → IsTop t.top → u.top ≡ t.top → is_canonical (levels_of t) page ≡ true → ((n : ℕ) → mapping_at u.pages n ≡ cond (number_of (levels_of t) page == n) x (mapping_at t.pages n)) → MapsTo page x t u
+maps_to t u page x range same e h q = rw same (go (is_canonical (levels_of t) q) refl)
   where
-    go : (b : Bool) → is_canonical 3 q ≡ b → cond b (mapping_at u.pages (number_of 3 q)) None ≡ cond (page == q) x (cond b (mapping_at t.pages (number_of 3 q)) None)
-    go true f = h (number_of 3 q) ∙ rw (same_page page q e f) refl
+    go : (b : Bool) → is_canonical (levels_of t) q ≡ b → cond b (mapping_at u.pages (number_of (levels_of t) q)) None ≡ cond (page == q) x (cond b (mapping_at t.pages (number_of (levels_of t) q)) None)
+    go true f = h (number_of (levels_of t) q) ∙ rw (same_page t.top page q range e f) refl
     go false f = rw (other (page == q) refl) refl
       where
         other : (b : Bool) → (page == q) ≡ b → b ≡ false

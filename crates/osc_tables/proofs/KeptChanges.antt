@@ -10,36 +10,54 @@ use Rattle.osc_sv39.specs.declared.entries.Mapping.{Mapping}
 use Rattle.osc_paging.specs.declared.Piece.{Piece}
 use Rattle.osc_paging.specs.declared.TableFrame.{TableFrame}
 use Rattle.osc_paging.specs.declared.Mapped.{Mapped}
-use Rattle.osc_paging.specs.KeptTables.{KeptTables, mapping_at, mapping_of, frame_of, piece_of, is_piece}
+use Rattle.osc_paging.specs.KeptTables.{KeptTables, levels_of, mapping_at, mapping_of, frame_of, piece_of, is_piece}
 use Rattle.osc_paging.specs.TableChanges.{with_table, without_table, with_page, without_page, frames_given, is_before, table_frame, renamed_page, renamed_table}
 use Rattle.osc_paging.proofs.WordLists.{slice_get-set}
 use Rattle.osc_paging.proofs.TableLists.{piece_of-with_table, piece_of-without_none, piece_of-push}
 use Rattle.osc_paging.proofs.Kept.{length-frames_given}
+use Rattle.osc_paging.proofs.TableLawProofs.{positive}
+use Rattle.osc_paging.proofs.Copied.{renamed_none}
 use Rattle.osc_tables.specs.Calls.{AllTaken, HasTaken, IsFresh}
-use Rattle.osc_tables.specs.Inside.{AscendWithin, ComesBefore, InOrder, LieWithin, Differ, IsKept, kept}
+use Rattle.osc_tables.specs.Inside.{AscendFrom, PagesBelow, IsTop, ComesBefore, InOrder, LieWithin, Differ, IsKept, kept}
 use Rattle.osc_tables.proofs.TablePlaces.{order-with_table, order-without_table}
 
 -- ---- pages
-ascend_more : (low lower high : ℕ) (ms : List Mapped) → AscendWithin low high ms → lower ≤ low → AscendWithin lower high ms
-ascend_more low lower high [] a s = tt
-ascend_more low lower high (m ∷ ms) a s = (omega (arith, a.0), a.1, a.2)
+ascend_more : (low lower : ℕ) (ms : List Mapped) → AscendFrom low ms → lower ≤ low → AscendFrom lower ms
+ascend_more low lower [] a s = tt
+ascend_more low lower (m ∷ ms) a s = (omega (arith, a.0), a.1)
 
-pub ascend-with_page : (low high n : ℕ) (m : Mapping) (ms : List Mapped) → AscendWithin low high ms → low ≤ n → n < high → mapping_at ms n ≡ None → AscendWithin low high (with_page n m ms)
-ascend-with_page low high n m [] a s t e = (s, t, tt)
-ascend-with_page low high n m (x ∷ ms) a s t e = go (ltb x.number n) refl (x.number == n) refl (ascend-with_page (suc x.number) high n m ms a.2)
+pub ascend-with_page : (low n : ℕ) (m : Mapping) (ms : List Mapped) → AscendFrom low ms → low ≤ n → mapping_at ms n ≡ None → AscendFrom low (with_page n m ms)
+ascend-with_page low n m [] a s e = (s, tt)
+ascend-with_page low n m (x ∷ ms) a s e = go (ltb x.number n) refl (x.number == n) refl (ascend-with_page (suc x.number) n m ms a.1)
   where
-    go : (b : Bool) → ltb x.number n ≡ b → (d : Bool) → (x.number == n) ≡ d → (suc x.number ≤ n → n < high → mapping_at ms n ≡ None → AscendWithin (suc x.number) high (with_page n m ms)) → AscendWithin low high (with_page n m (x ∷ ms))
+    go : (b : Bool) → ltb x.number n ≡ b → (d : Bool) → (x.number == n) ≡ d → (suc x.number ≤ n → mapping_at ms n ≡ None → AscendFrom (suc x.number) (with_page n m ms)) → AscendFrom low (with_page n m (x ∷ ms))
     go b f true g on = absurd (let h = rw g at e in cc)
-    go true f false g on = rw f (a.0, a.1, on (grind (arith, nat_tests, f)) t (rw g at e))
-    go false f false g on = let above : n < x.number = grind (arith, nat_tests, f, g) in rw f (s, t, (above, a.1, a.2))
+    go true f false g on = rw f (a.0, on (grind (arith, nat_tests, f)) (rw g at e))
+    go false f false g on = let above : n < x.number = grind (arith, nat_tests, f, g) in rw f (s, (above, a.1))
 
-pub ascend-without_page : (low high n : ℕ) (ms : List Mapped) → AscendWithin low high ms → AscendWithin low high (without_page n ms)
-ascend-without_page low high n [] a = tt
-ascend-without_page low high n (x ∷ ms) a = go (x.number == n) (ascend-without_page (suc x.number) high n ms a.2)
+below-with_page : (high n : ℕ) (m : Mapping) (ms : List Mapped) → PagesBelow high ms → n < high → PagesBelow high (with_page n m ms)
+below-with_page high n m [] a s = (s, tt)
+below-with_page high n m (x ∷ ms) a s = go (ltb x.number n) (below-with_page high n m ms a.1 s)
   where
-    go : (b : Bool) → AscendWithin (suc x.number) high (without_page n ms) → AscendWithin low high (cond b (without_page n ms) (x ∷ without_page n ms))
-    go true on = ascend_more (suc x.number) low high (without_page n ms) on (omega (arith, a.0))
-    go false on = (a.0, a.1, on)
+    go : (b : Bool) → PagesBelow high (with_page n m ms) → PagesBelow high (cond b (x ∷ with_page n m ms) ((record { number = n; mapping = m }) ∷ x ∷ ms))
+    go true on = (a.0, on)
+    go false on = (s, (a.0, a.1))
+
+pub ascend-without_page : (low n : ℕ) (ms : List Mapped) → AscendFrom low ms → AscendFrom low (without_page n ms)
+ascend-without_page low n [] a = tt
+ascend-without_page low n (x ∷ ms) a = go (x.number == n) (ascend-without_page (suc x.number) n ms a.1)
+  where
+    go : (b : Bool) → AscendFrom (suc x.number) (without_page n ms) → AscendFrom low (cond b (without_page n ms) (x ∷ without_page n ms))
+    go true on = ascend_more (suc x.number) low (without_page n ms) on (omega (arith, a.0))
+    go false on = (a.0, on)
+
+below-without_page : (high n : ℕ) (ms : List Mapped) → PagesBelow high ms → PagesBelow high (without_page n ms)
+below-without_page high n [] a = tt
+below-without_page high n (x ∷ ms) a = go (x.number == n) (below-without_page high n ms a.1)
+  where
+    go : (b : Bool) → PagesBelow high (without_page n ms) → PagesBelow high (cond b (without_page n ms) (x ∷ without_page n ms))
+    go true on = on
+    go false on = (a.0, on)
 
 pub length-with_page : (n : ℕ) (m : Mapping) (ms : List Mapped) → length (with_page n m ms) ≡ length ms + 1
 length-with_page n m [] = refl
@@ -191,8 +209,8 @@ given_other [] free f h = refl
 given_other (t ∷ ts) free f h = grind (arith, nat_tests, h, given_other ts (set free t.frame true) f, slice_get-set free t.frame f true)
 
 -- tables and leaves aside are at most as many as the frames that are not free
-pub fewer_than_frames : (levels : ℕ) (pages : List Mapped) (tables aside : List TableFrame) (room count : ℕ) (free : List Bool) → IsKept levels pages tables aside room count → AllTaken tables free → AllTaken aside free → length tables + length aside + free_count free ≤ length free
-fewer_than_frames levels pages tables aside room count free k all out =
+pub fewer_than_frames : (top : ℕ) (pages : List Mapped) (tables aside : List TableFrame) (room count : ℕ) (free : List Bool) → IsKept top pages tables aside room count → AllTaken tables free → AllTaken aside free → length tables + length aside + free_count free ≤ length free
+fewer_than_frames top pages tables aside room count free k all out =
     let one = given_count tables free k.tables_differ all in
     let two = given_count aside (frames_given tables free) k.aside_differ (λ f p e. rw (given_other tables free f (k.apart f p e)) (out f p e)) in
     let most = count_by-le-length (λ x. x) (frames_given aside (frames_given tables free)) in
@@ -221,10 +239,10 @@ free_is_none ts free f all e = go (piece_of ts f) (λ p. all f p)
     go None h = refl
     go (Some p) h = let d = h p refl in cc
 
-pub least_is_fresh : (pages : List Mapped) (tables aside : List TableFrame) (room count frame : ℕ) (free : List Bool) → IsKept 3 pages tables aside room count → HasTaken (kept pages tables aside room count) free → least_free free ≡ Some frame → IsFresh (kept pages tables aside room count) frame
-least_is_fresh pages tables aside room count frame free k h e =
+pub least_is_fresh : (top : ℕ) (pages : List Mapped) (tables aside : List TableFrame) (room count frame : ℕ) (free : List Bool) → IsKept top pages tables aside room count → HasTaken (kept top pages tables aside room count) free → least_free free ≡ Some frame → IsFresh (kept top pages tables aside room count) frame
+least_is_fresh top pages tables aside room count frame free k h e =
     let p = position_taken free frame e in
-    let fewer = fewer_than_frames 3 pages tables aside room count free k h.tables h.aside in
+    let fewer = fewer_than_frames top pages tables aside room count free k h.tables h.aside in
     let some = p.1 in
     record {
       no_table = free_is_none tables free frame h.tables p.0;
@@ -232,12 +250,14 @@ least_is_fresh pages tables aside room count frame free k h e =
       fits = omega (arith, h.count);
     }
 
-pub kept-with_table : (pages : List Mapped) (tables aside : List TableFrame) (room count : ℕ) (t : TableFrame) → IsKept 3 pages tables aside room count → IsFresh (kept pages tables aside room count) t.frame → t.piece.level < 3 → t.piece.number * 512 ^ suc t.piece.level < 134217728 → frame_of tables t.piece.level t.piece.number ≡ None → IsKept 3 pages (with_table t tables) aside room count
-kept-with_table pages tables aside room count t k f s r none = record {
+pub kept-with_table : (top : ℕ) (pages : List Mapped) (tables aside : List TableFrame) (room count : ℕ) (t : TableFrame) → IsKept top pages tables aside room count → IsFresh (kept top pages tables aside room count) t.frame → t.piece.level < suc top → t.piece.number * 512 ^ suc t.piece.level < 512 ^ suc top → frame_of tables t.piece.level t.piece.number ≡ None → IsKept top pages (with_table t tables) aside room count
+kept-with_table top pages tables aside room count t k f s r none = record {
+  range = k.range;
   pages_fit = k.pages_fit;
   tables_fit = let long = length-with_table t tables in omega (arith, f.fits);
   ascend = k.ascend;
-  tables_lie = lie-with_table 3 t tables k.tables_lie s r;
+  pages_lie = k.pages_lie;
+  tables_lie = lie-with_table (suc top) t tables k.tables_lie s r;
   tables_order = order-with_table t tables k.tables_order none;
   aside_lie = k.aside_lie;
   tables_differ = differ-with_table t tables k.tables_differ f.no_table;
@@ -245,8 +265,8 @@ kept-with_table pages tables aside room count t k f s r none = record {
   apart = λ g p e. grind (arith, nat_tests, piece_of-with_table tables t g f.no_table, k.apart g p e, e, f.not_aside);
 }
 
-pub taken-with_table : (pages : List Mapped) (tables aside : List TableFrame) (room count : ℕ) (t : TableFrame) (free : List Bool) → HasTaken (kept pages tables aside room count) free → IsFresh (kept pages tables aside room count) t.frame → least_free free ≡ Some t.frame → HasTaken (kept pages (with_table t tables) aside room count) (set free t.frame false)
-taken-with_table pages tables aside room count t free h f e =
+pub taken-with_table : (top : ℕ) (pages : List Mapped) (tables aside : List TableFrame) (room count : ℕ) (t : TableFrame) (free : List Bool) → HasTaken (kept top pages tables aside room count) free → IsFresh (kept top pages tables aside room count) t.frame → least_free free ≡ Some t.frame → HasTaken (kept top pages (with_table t tables) aside room count) (set free t.frame false)
+taken-with_table top pages tables aside room count t free h f e =
     let p = (position_taken free t.frame e).0 in
     record {
       count = length-set free t.frame false ∙ h.count;
@@ -255,14 +275,16 @@ taken-with_table pages tables aside room count t free h f e =
     }
 
 -- ---- pages that are mapped and unmapped
-pub unmapped_at : (t : KeptTables) (page : ℕ) → is_canonical 3 page ≡ true → mapping_of 3 t page ≡ None → mapping_at t.pages (number_of 3 page) ≡ None
+pub unmapped_at : (t : KeptTables) (page : ℕ) → is_canonical (levels_of t) page ≡ true → mapping_of t page ≡ None → mapping_at t.pages (number_of (levels_of t) page) ≡ None
 unmapped_at t page e h = rw e at h
 
-pub kept-with_page : (pages : List Mapped) (tables aside : List TableFrame) (room count n : ℕ) (m : Mapping) → IsKept 3 pages tables aside room count → length pages < room → n < 134217728 → mapping_at pages n ≡ None → IsKept 3 (with_page n m pages) tables aside room count
-kept-with_page pages tables aside room count n m k fits small none = record {
+pub kept-with_page : (top : ℕ) (pages : List Mapped) (tables aside : List TableFrame) (room count n : ℕ) (m : Mapping) → IsKept top pages tables aside room count → length pages < room → n < 512 ^ suc top → mapping_at pages n ≡ None → IsKept top (with_page n m pages) tables aside room count
+kept-with_page top pages tables aside room count n m k fits small none = record {
+  range = k.range;
   pages_fit = let long = length-with_page n m pages in omega arith;
   tables_fit = k.tables_fit;
-  ascend = ascend-with_page 0 134217728 n m pages k.ascend (omega arith) small none;
+  ascend = ascend-with_page 0 n m pages k.ascend (omega arith) none;
+  pages_lie = below-with_page (512 ^ suc top) n m pages k.pages_lie small;
   tables_lie = k.tables_lie;
   tables_order = k.tables_order;
   aside_lie = k.aside_lie;
@@ -271,11 +293,13 @@ kept-with_page pages tables aside room count n m k fits small none = record {
   apart = k.apart;
 }
 
-pub kept-without_page : (pages : List Mapped) (tables aside : List TableFrame) (room count n : ℕ) → IsKept 3 pages tables aside room count → IsKept 3 (without_page n pages) tables aside room count
-kept-without_page pages tables aside room count n k = record {
+pub kept-without_page : (top : ℕ) (pages : List Mapped) (tables aside : List TableFrame) (room count n : ℕ) → IsKept top pages tables aside room count → IsKept top (without_page n pages) tables aside room count
+kept-without_page top pages tables aside room count n k = record {
+  range = k.range;
   pages_fit = let short = length-without_page n pages in let was = k.pages_fit in omega arith;
   tables_fit = k.tables_fit;
-  ascend = ascend-without_page 0 134217728 n pages k.ascend;
+  ascend = ascend-without_page 0 n pages k.ascend;
+  pages_lie = below-without_page (512 ^ suc top) n pages k.pages_lie;
   tables_lie = k.tables_lie;
   tables_order = k.tables_order;
   aside_lie = k.aside_lie;
@@ -288,8 +312,9 @@ pub same_taken : (t u : KeptTables) (free : List Bool) → HasTaken t free → t
 same_taken t u free h e f g = record { count = h.count ∙ e; tables = rw f at h.tables; aside = rw g at h.aside }
 
 -- ---- a leaf that is set aside
-pub kept-set_aside : (pages : List Mapped) (tables aside : List TableFrame) (room count n f : ℕ) → IsKept 3 pages tables aside room count → frame_of tables 0 n ≡ Some f → IsKept 3 pages (without_table 0 n tables) (aside ++ table_frame 0 n f ∷ []) room count
-kept-set_aside pages tables aside room count n f k e = record {
+pub kept-set_aside : (top : ℕ) (pages : List Mapped) (tables aside : List TableFrame) (room count n f : ℕ) → IsKept top pages tables aside room count → frame_of tables 0 n ≡ Some f → IsKept top pages (without_table 0 n tables) (aside ++ table_frame 0 n f ∷ []) room count
+kept-set_aside top pages tables aside room count n f k e = record {
+  range = k.range;
   pages_fit = k.pages_fit;
   tables_fit =
       let fewer = length-without_table 0 n f tables e in
@@ -297,9 +322,10 @@ kept-set_aside pages tables aside room count n f k e = record {
       let long = length-append aside (table_frame 0 n f ∷ []) in
       omega arith;
   ascend = k.ascend;
-  tables_lie = lie-without_table 3 0 n tables k.tables_lie;
+  pages_lie = k.pages_lie;
+  tables_lie = lie-without_table (suc top) 0 n tables k.tables_lie;
   tables_order = order-without_table 0 n tables k.tables_order;
-  aside_lie = let w = lies_at 3 0 n f tables k.tables_lie e in lie_push (table_frame 0 n f) aside k.aside_lie w.0 w.1;
+  aside_lie = let w = lies_at (suc top) 0 n f tables k.tables_lie e in lie_push (table_frame 0 n f) aside k.aside_lie w.0 w.1;
   tables_differ = differ-without_table 0 n tables k.tables_differ;
   aside_differ = differ_push (table_frame 0 n f) aside k.aside_differ (absent (piece_of aside f) refl);
   apart = λ g p d. apart g p (piece_of aside g) refl d;
@@ -309,7 +335,7 @@ kept-set_aside pages tables aside room count n f k e = record {
     absent None d = refl
     absent (Some p) d = absurd (found_frame 0 n f tables e (k.apart f p d))
 
-    lie_push : (t : TableFrame) (ts : List TableFrame) → LieWithin 3 ts → t.piece.level < 3 → t.piece.number * 512 ^ suc t.piece.level < 134217728 → LieWithin 3 (ts ++ t ∷ [])
+    lie_push : (t : TableFrame) (ts : List TableFrame) → LieWithin (suc top) ts → t.piece.level < suc top → t.piece.number * 512 ^ suc t.piece.level < 512 ^ suc top → LieWithin (suc top) (ts ++ t ∷ [])
     lie_push t [] w s r = (s, r, tt)
     lie_push t (x ∷ ts) w s r = (w.0, w.1, lie_push t ts w.2 s r)
 
@@ -332,11 +358,13 @@ kept-set_aside pages tables aside room count n f k e = record {
         same true b h = let e2 : f ≡ g = grind (arith, nat_tests, b) in subst (λ y. piece_of (without_table 0 n tables) y ≡ None) e2 (frame_gone 0 n f tables k.tables_differ e)
 
 -- ---- frames that are given back
-pub kept-no_aside : (pages : List Mapped) (tables aside : List TableFrame) (room count : ℕ) → IsKept 3 pages tables aside room count → IsKept 3 pages tables [] room count
-kept-no_aside pages tables aside room count k = record {
+pub kept-no_aside : (top : ℕ) (pages : List Mapped) (tables aside : List TableFrame) (room count : ℕ) → IsKept top pages tables aside room count → IsKept top pages tables [] room count
+kept-no_aside top pages tables aside room count k = record {
+  range = k.range;
   pages_fit = k.pages_fit;
   tables_fit = let was = k.tables_fit in omega arith;
   ascend = k.ascend;
+  pages_lie = k.pages_lie;
   tables_lie = k.tables_lie;
   tables_order = k.tables_order;
   aside_lie = tt;
@@ -345,8 +373,8 @@ kept-no_aside pages tables aside room count k = record {
   apart = λ f p e. cc;
 }
 
-pub taken-no_aside : (pages : List Mapped) (tables aside : List TableFrame) (room count : ℕ) (free : List Bool) → IsKept 3 pages tables aside room count → HasTaken (kept pages tables aside room count) free → HasTaken (kept pages tables [] room count) (frames_given aside free)
-taken-no_aside pages tables aside room count free k h = record {
+pub taken-no_aside : (top : ℕ) (pages : List Mapped) (tables aside : List TableFrame) (room count : ℕ) (free : List Bool) → IsKept top pages tables aside room count → HasTaken (kept top pages tables aside room count) free → HasTaken (kept top pages tables [] room count) (frames_given aside free)
+taken-no_aside top pages tables aside room count free k h = record {
   count = length-frames_given aside free ∙ h.count;
   tables = λ f p e. rw (given_other aside free f (none f p e (piece_of aside f) refl)) (h.tables f p e);
   aside = λ f p e. cc;
@@ -356,11 +384,13 @@ taken-no_aside pages tables aside room count free k h = record {
     none f p e None d = refl
     none f p e (Some q) d = let h = k.apart f q d in cc
 
-pub kept-nothing : (room count : ℕ) → IsKept 3 [] [] [] room count
-kept-nothing room count = record {
+pub kept-nothing : (top room count : ℕ) → IsTop top → IsKept top [] [] [] room count
+kept-nothing top room count range = record {
+  range = range;
   pages_fit = omega arith;
   tables_fit = omega arith;
   ascend = tt;
+  pages_lie = tt;
   tables_lie = tt;
   tables_order = tt;
   aside_lie = tt;
@@ -369,12 +399,14 @@ kept-nothing room count = record {
   apart = λ f p e. cc;
 }
 
-pub kept-root : (room count root : ℕ) → root < count → IsKept 3 [] (table_frame 2 0 root ∷ []) [] room count
-kept-root room count root s = record {
+pub kept-root : (top room count root : ℕ) → IsTop top → root < count → IsKept top [] (table_frame top 0 root ∷ []) [] room count
+kept-root top room count root range s = record {
+  range = range;
   pages_fit = omega arith;
   tables_fit = omega arith;
   ascend = tt;
-  tables_lie = (omega arith, omega arith, tt);
+  pages_lie = tt;
+  tables_lie = (omega arith, let h = positive (suc top) in omega arith, tt);
   tables_order = (tt, tt);
   aside_lie = tt;
   tables_differ = (refl, tt);
@@ -405,19 +437,6 @@ gives_one ts i free d s differ taken =
     }
 
 -- ---- a copy under new names
-renamed_none : (names : List ℕ) (ts : List TableFrame) (f : ℕ) → ((g : ℕ) → piece_of ts g ≢ None → slice_index names g ≢ f) → piece_of (map (renamed_table names) ts) f ≡ None
-renamed_none names [] f h = refl
-renamed_none names (t ∷ ts) f h =
-    let here : (slice_index names t.frame == f) ≡ false = grind (arith, nat_tests, h t.frame there) in
-    rw here (renamed_none names ts f (λ g d. h g (later g d (t.frame == g))))
-  where
-    there : piece_of (t ∷ ts) t.frame ≢ None
-    there = let same : (t.frame == t.frame) ≡ true = grind (arith, nat_tests) in rw same (λ e. cc)
-
-    later : (g : ℕ) → piece_of ts g ≢ None → (b : Bool) → cond b (Some t.piece) (piece_of ts g) ≢ None
-    later g d true = λ e. cc
-    later g d false = d
-
 renamed_differ : (names : List ℕ) (ts : List TableFrame) → Differ ts → ((f g : ℕ) → piece_of ts f ≢ None → piece_of ts g ≢ None → slice_index names f ≡ slice_index names g → f ≡ g) → Differ (map (renamed_table names) ts)
 renamed_differ names [] d h = tt
 renamed_differ names (t ∷ ts) d h = (
@@ -435,9 +454,9 @@ renamed_differ names (t ∷ ts) d h = (
     alone : (g : ℕ) → piece_of ts g ≢ None → g ≡ t.frame → ⊥
     alone g some same = some (subst (λ x. piece_of ts x ≡ None) (sym same) d.0)
 
-renamed_lie : (names : List ℕ) (ts : List TableFrame) → LieWithin 3 ts → LieWithin 3 (map (renamed_table names) ts)
-renamed_lie names [] w = tt
-renamed_lie names (t ∷ ts) w = (w.0, w.1, renamed_lie names ts w.2)
+renamed_lie : (top : ℕ) (names : List ℕ) (ts : List TableFrame) → LieWithin (suc top) ts → LieWithin (suc top) (map (renamed_table names) ts)
+renamed_lie top names [] w = tt
+renamed_lie top names (t ∷ ts) w = (w.0, w.1, renamed_lie top names ts w.2)
 
 renamed_before : (names : List ℕ) (p : Piece) (ts : List TableFrame) → ComesBefore p ts → ComesBefore p (map (renamed_table names) ts)
 renamed_before names p [] a = tt
@@ -447,20 +466,26 @@ renamed_order : (names : List ℕ) (ts : List TableFrame) → InOrder ts → InO
 renamed_order names [] o = tt
 renamed_order names (t ∷ ts) o = (renamed_before names t.piece ts o.0, renamed_order names ts o.1)
 
-renamed_ascend : (names : List ℕ) (low high : ℕ) (ms : List Mapped) → AscendWithin low high ms → AscendWithin low high (map (renamed_page names) ms)
-renamed_ascend names low high [] a = tt
-renamed_ascend names low high (m ∷ ms) a = (a.0, a.1, renamed_ascend names (suc m.number) high ms a.2)
+renamed_ascend : (names : List ℕ) (low : ℕ) (ms : List Mapped) → AscendFrom low ms → AscendFrom low (map (renamed_page names) ms)
+renamed_ascend names low [] a = tt
+renamed_ascend names low (m ∷ ms) a = (a.0, renamed_ascend names (suc m.number) ms a.1)
+
+renamed_below : (names : List ℕ) (high : ℕ) (ms : List Mapped) → PagesBelow high ms → PagesBelow high (map (renamed_page names) ms)
+renamed_below names high [] a = tt
+renamed_below names high (m ∷ ms) a = (a.0, renamed_below names high ms a.1)
 
 length-renamed : {X : Type 0} (f : X → X) (xs : List X) → length (map f xs) ≡ length xs
 length-renamed f [] = refl
 length-renamed f (x ∷ xs) = ap suc (length-renamed f xs)
 
-pub kept-renamed : (pages : List Mapped) (tables aside : List TableFrame) (room count : ℕ) (names : List ℕ) → IsKept 3 pages tables aside room count → ((f g : ℕ) → piece_of tables f ≢ None → piece_of tables g ≢ None → slice_index names f ≡ slice_index names g → f ≡ g) → IsKept 3 (map (renamed_page names) pages) (map (renamed_table names) tables) [] room count
-kept-renamed pages tables aside room count names k h = record {
+pub kept-renamed : (top : ℕ) (pages : List Mapped) (tables aside : List TableFrame) (room count : ℕ) (names : List ℕ) → IsKept top pages tables aside room count → ((f g : ℕ) → piece_of tables f ≢ None → piece_of tables g ≢ None → slice_index names f ≡ slice_index names g → f ≡ g) → IsKept top (map (renamed_page names) pages) (map (renamed_table names) tables) [] room count
+kept-renamed top pages tables aside room count names k h = record {
+  range = k.range;
   pages_fit = let long = length-renamed (renamed_page names) pages in let was = k.pages_fit in omega arith;
   tables_fit = let long = length-renamed (renamed_table names) tables in let was = k.tables_fit in omega arith;
-  ascend = renamed_ascend names 0 134217728 pages k.ascend;
-  tables_lie = renamed_lie names tables k.tables_lie;
+  ascend = renamed_ascend names 0 pages k.ascend;
+  pages_lie = renamed_below names (512 ^ suc top) pages k.pages_lie;
+  tables_lie = renamed_lie top names tables k.tables_lie;
   tables_order = renamed_order names tables k.tables_order;
   aside_lie = tt;
   tables_differ = renamed_differ names tables k.tables_differ h;

@@ -4,7 +4,7 @@ use Rattle.std.proofs.lemmas.Bool.Decides.{nat_tests}
 use Rattle.std.proofs.Math.Nat.{pow-succ', mul-le-mul_right}
 use Rattle.osc_sv39.specs.Walk.{piece}
 use Rattle.osc_paging.specs.declared.TableFrame.{TableFrame}
-use Rattle.osc_paging.specs.KeptTables.{pieces_over, missing, need, lack, frame_of}
+use Rattle.osc_paging.specs.KeptTables.{pieces_over, missing, need_below, lack, frame_of}
 use Rattle.osc_paging.proofs.Needed.{piece_mono}
 
 pub piece-le : (l n : ℕ) → piece l n ≤ n
@@ -27,13 +27,13 @@ pub missing-none : (ts : List TableFrame) (l from : ℕ) → missing ts l from 0
 unfolding missing
 missing-none ts l from = refl
 
-pub need-step : (ts : List TableFrame) (l first count : ℕ) → 0 < l → need ts l first count ≡ missing ts (l - 1) (piece l first) (pieces_over l first count) + need ts (l - 1) first count
-unfolding need
+pub need-step : (ts : List TableFrame) (l first count : ℕ) → 0 < l → need_below ts l first count ≡ missing ts (l - 1) (piece l first) (pieces_over l first count) + need_below ts (l - 1) first count
+unfolding need_below
 need-step ts zero first count s = absurd (omega arith)
 need-step ts (suc l) first count s = let e : suc l - 1 ≡ l = omega arith in rw e refl
 
-pub need-zero : (ts : List TableFrame) (first count : ℕ) → need ts 0 first count ≡ 0
-unfolding need
+pub need-zero : (ts : List TableFrame) (first count : ℕ) → need_below ts 0 first count ≡ 0
+unfolding need_below
 need-zero ts first count = refl
 
 pub ruleset piece_facts = (piece-le, pieces_over-some, piece-last, nat_tests)

@@ -7,18 +7,18 @@ use Rattle.osc_sv39.specs.Walk.{is_canonical, number_of}
 use Rattle.osc_paging.specs.declared.Piece.{Piece}
 use Rattle.osc_paging.specs.declared.TableFrame.{TableFrame}
 use Rattle.osc_paging.specs.declared.Mapped.{Mapped}
-use Rattle.osc_paging.specs.KeptTables.{KeptTables, closed, root_of, mapping_of, piece_of, frame_of}
+use Rattle.osc_paging.specs.KeptTables.{KeptTables, levels_of, closed, root_of, mapping_of, piece_of, frame_of}
 use Rattle.osc_paging.specs.TableChanges.{Changed}
 
 abbrev pub changed : KeptTables → List Bool → List Job → Changed
 changed tables free jobs = record { tables = tables; free = free; jobs = jobs }
 
--- there is a topmost table; `top` is its level
-abbrev pub IsOpen : ℕ → KeptTables → Type 0
-IsOpen top t = IsSome (root_of top t)
+-- there is a topmost table
+abbrev pub IsOpen : KeptTables → Type 0
+IsOpen t = IsSome (root_of t)
 
 abbrev pub IsClosed : KeptTables → Type 0
-IsClosed t = t ≡ closed t.count t.room
+IsClosed t = t ≡ closed (levels_of t) t.count t.room
 
 -- how many more pages may be mapped
 abbrev pub left : KeptTables → ℕ
@@ -33,24 +33,24 @@ pub record HasTaken (t : KeptTables) (free : List Bool) : Type 0 where
   pub tables : AllTaken t.tables free
   pub aside : AllTaken t.aside free
 
--- `split` takes the address of each of these pages
+-- with these levels `split` takes the address of each of these pages
 abbrev pub AllCanonical : ℕ → ℕ → ℕ → Type 0
 AllCanonical levels first count = (k : ℕ) → k < count → IsTrue (is_canonical levels (first + k))
 
 -- the leaf table is linked and has no entry
-pub record IsEmptyLeaf (levels : ℕ) (t : KeptTables) (leaf : ℕ) : Type 0 where
-  pub canonical : IsTrue (is_canonical levels (leaf * 512))
-  pub linked : IsSome (frame_of t.tables 0 (number_of (levels - 1) leaf))
-  pub empty : (i : ℕ) → i < 512 → mapping_of levels t (leaf * 512 + i) ≡ None
+pub record IsEmptyLeaf (t : KeptTables) (leaf : ℕ) : Type 0 where
+  pub canonical : IsTrue (is_canonical (levels_of t) (leaf * 512))
+  pub linked : IsSome (frame_of t.tables 0 (number_of t.top leaf))
+  pub empty : (i : ℕ) → i < 512 → mapping_of t (leaf * 512 + i) ≡ None
 
 -- the least mapped page at or above another
-pub record IsNextPage (levels : ℕ) (t : KeptTables) (from page : ℕ) : Type 0 where
+pub record IsNextPage (t : KeptTables) (from page : ℕ) : Type 0 where
   pub above : from ≤ page
-  pub mapped : IsSome (mapping_of levels t page)
-  pub least : (q : ℕ) → from ≤ q → IsSome (mapping_of levels t q) → page ≤ q
+  pub mapped : IsSome (mapping_of t page)
+  pub least : (q : ℕ) → from ≤ q → IsSome (mapping_of t q) → page ≤ q
 
-abbrev pub NoneFrom : ℕ → KeptTables → ℕ → Type 0
-NoneFrom levels t from = (q : ℕ) → from ≤ q → mapping_of levels t q ≡ None
+abbrev pub NoneFrom : KeptTables → ℕ → Type 0
+NoneFrom t from = (q : ℕ) → from ≤ q → mapping_of t q ≡ None
 
 -- all frames are those of the machine, and the names give different frames for different tables
 pub record CanRename (t : KeptTables) (names : List ℕ) : Type 0 where
@@ -66,6 +66,6 @@ pub record IsFresh (t : KeptTables) (frame : ℕ) : Type 0 where
   pub fits : length t.tables + length t.aside < t.count
 
 -- the page maps to this and no other page changes
-abbrev pub MapsTo : ℕ → ℕ → Option Mapping → KeptTables → KeptTables → Type 0
-MapsTo levels page mapping old new =
-    (q : ℕ) → mapping_of levels new q ≡ (if page == q then mapping else mapping_of levels old q)
+abbrev pub MapsTo : ℕ → Option Mapping → KeptTables → KeptTables → Type 0
+MapsTo page mapping old new =
+    (q : ℕ) → mapping_of new q ≡ (if page == q then mapping else mapping_of old q)

@@ -6,14 +6,23 @@ use Rattle.osc_paging.specs.declared.Mapped.{Mapped}
 use Rattle.osc_paging.specs.KeptTables.{KeptTables, piece_of}
 use Rattle.osc_paging.specs.TableChanges.{is_before}
 
-abbrev pub kept : List Mapped → List TableFrame → List TableFrame → ℕ → ℕ → KeptTables
-kept pages tables aside room count =
-    record { pages = pages; tables = tables; aside = aside; room = room; count = count }
+-- the level of the topmost table, where there are three or four levels
+abbrev pub IsTop : ℕ → Type 0
+IsTop top = (2 ≤ top) × (top ≤ 3)
 
--- the numbers ascend, from `low` on and below `high`
-abbrev pub AscendWithin : ℕ → ℕ → List Mapped → Type 0
-AscendWithin low high [] = Unit {0}
-AscendWithin low high (m ∷ ms) = (low ≤ m.number) × (m.number < high) × AscendWithin (suc m.number) high ms
+abbrev pub kept : ℕ → List Mapped → List TableFrame → List TableFrame → ℕ → ℕ → KeptTables
+kept top pages tables aside room count =
+    record { top = top; pages = pages; tables = tables; aside = aside; room = room; count = count }
+
+-- the numbers ascend, from `low` on
+abbrev pub AscendFrom : ℕ → List Mapped → Type 0
+AscendFrom low [] = Unit {0}
+AscendFrom low (m ∷ ms) = (low ≤ m.number) × AscendFrom (suc m.number) ms
+
+-- each page has a number below this one
+abbrev pub PagesBelow : ℕ → List Mapped → Type 0
+PagesBelow high [] = Unit {0}
+PagesBelow high (m ∷ ms) = (m.number < high) × PagesBelow high ms
 
 -- the piece comes before each of these tables
 abbrev pub ComesBefore : Piece → List TableFrame → Type 0
@@ -36,13 +45,15 @@ abbrev pub Differ : List TableFrame → Type 0
 Differ [] = Unit {0}
 Differ (t ∷ ts) = (piece_of ts t.frame ≡ None) × Differ ts
 
-pub record IsKept (levels : ℕ) (pages : List Mapped) (tables aside : List TableFrame) (room count : ℕ) : Type 0 where
+pub record IsKept (top : ℕ) (pages : List Mapped) (tables aside : List TableFrame) (room count : ℕ) : Type 0 where
+  pub range : IsTop top
   pub pages_fit : length pages ≤ room
   pub tables_fit : length tables + length aside ≤ count
-  pub ascend : AscendWithin 0 (512 ^ levels) pages
-  pub tables_lie : LieWithin levels tables
+  pub ascend : AscendFrom 0 pages
+  pub pages_lie : PagesBelow (512 ^ suc top) pages
+  pub tables_lie : LieWithin (suc top) tables
   pub tables_order : InOrder tables
-  pub aside_lie : LieWithin levels aside
+  pub aside_lie : LieWithin (suc top) aside
   pub tables_differ : Differ tables
   pub aside_differ : Differ aside
   pub apart : (f : ℕ) (p : Piece) → piece_of aside f ≡ Some p → piece_of tables f ≡ None

@@ -1,9 +1,11 @@
 -- Where a page or a table stands, or would stand, in the order.
-use Rattle.std.specs.Prelude.{ℕ, suc, ◌≡◌, ◌<◌, ◌-◌, ◌%◌, ◌^◌, true, nat_lt, nat_le, Option, Some, None, length, slice_index_or, List, [], ◌∷◌, if◌then◌else◌}
+use Rattle.std.specs.Prelude.{ℕ, suc, ◌≡◌, ◌<◌, ◌-◌, ◌*◌, ◌^◌, true, nat_lt, nat_le, Option, Some, None, length, slice_index_or, List, [], ◌∷◌, if◌then◌else◌}
 use Rattle.osc_paging.specs.declared.Mapped.{Mapped}
 use Rattle.osc_paging.specs.declared.Piece.{Piece}
 use Rattle.osc_paging.specs.declared.TableFrame.{TableFrame}
-use Rattle.osc_paging.specs.KeptTables.{is_piece}
+use Rattle.osc_paging.specs.declared.TablePlace.{TablePlace}
+use Rattle.osc_sv39.specs.Walk.{number_of}
+use Rattle.osc_paging.specs.KeptTables.{canonical_page, is_piece}
 use Rattle.osc_paging.specs.TableChanges.{is_before}
 
 -- how many pages have a lower number, in an ascending list
@@ -16,13 +18,21 @@ pub record StandsAt (number : ℕ) (ms : List Mapped) (i : ℕ) : Type 0 where
   pub within : i < length ms
   pub same : (d : Mapped) → (slice_index_or ms i d).number ≡ number
 
--- the least number of a page at or above another, in the range of three levels
-abbrev pub least_from : ℕ → Option ℕ
-least_from from =
-    if nat_lt from (2 ^ 26) then Some from
-    else if nat_le from (2 ^ 52 - 2 ^ 26) then Some (2 ^ 26)
-    else if nat_lt from (2 ^ 52) then Some (from % 2 ^ 27)
+-- how many pages are in the lower half of the range; `top` is the level of the topmost table
+abbrev pub half : ℕ → ℕ
+half top = 2 ^ (9 * suc top - 1)
+
+-- the least number of a page at or above another
+abbrev pub least_from : ℕ → ℕ → Option ℕ
+least_from top from =
+    if nat_lt from (half top) then Some from
+    else if nat_le from (2 ^ 52 - half top) then Some (half top)
+    else if nat_lt from (2 ^ 52) then Some (number_of (suc top) from)
     else None
+
+-- the place of a table
+abbrev pub place_below : ℕ → Piece → TablePlace
+place_below top p = record { level = p.level; first = canonical_page (suc top) (p.number * 512 ^ suc p.level) }
 
 -- how many tables come before a piece, in a list in order
 abbrev pub table_place : Piece → List TableFrame → ℕ

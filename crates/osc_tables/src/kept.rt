@@ -6,18 +6,19 @@ ghost use Rattle.std.specs.Prelude.{IfOk, is_some, IsSome, IsTrue, MatchOption, 
 ghost use Rattle.osc_word.specs.JobList.{spare};
 ghost use Rattle.osc_frames.specs.Free.{free_count};
 ghost use Rattle.osc_sv39.specs.Entries.{word_of};
-ghost use Rattle.osc_sv39.specs.Walk.{is_canonical, number_of};
+ghost use Rattle.osc_sv39.specs.Walk.{IsLevels, is_canonical, number_of};
 ghost use Rattle.osc_paging.specs.Agree.{ReadsAsLeaf};
-ghost use Rattle.osc_paging.specs.KeptTables.{closed, kept_word, link_entry, mapping_of, need, page_entry};
-ghost use Rattle.osc_paging.specs.KeptTables.{frame_of, mapping_at, piece_of, place_of, root_of, table_at};
+ghost use Rattle.osc_paging.specs.KeptTables.{closed, kept_word, levels_of, link_entry, mapping_of, need, page_entry};
+ghost use Rattle.osc_paging.specs.KeptTables.{frame_of, mapping_at, piece_of, root_of, table_at};
 ghost use Rattle.osc_word.specs.declared.job_list.Job.{Job};
 ghost use Rattle.osc_paging.specs.TableChanges.{frames_given, give_leaves, link, link_all, map_page, opened, put_job, reclaim, renamed};
 ghost use Rattle.osc_paging.specs.TableChanges.{table_frame, unmap_page, with_table, without_page, without_table, zero_job};
 ghost use Rattle.osc_tables.specs.Calls.{AllCanonical, AllTaken, CanRename, HasTaken, IsClosed, IsEmptyLeaf, IsFresh, MapsTo, IsNextPage, IsOpen, NoneFrom, changed, left};
-ghost use Rattle.osc_tables.specs.Inside.{Differ, LieWithin};
+ghost use Rattle.osc_tables.specs.Inside.{Differ, IsTop, LieWithin};
+ghost use Rattle.osc_tables.specs.Places.{place_below};
 
 use crate::needs::need_below;
-use crate::numbers::{least_from, number_in_range, page_of, piece_over};
+use crate::numbers::{leaf_number, least_from, number_in_range, number_of, page_of, piece_over};
 use crate::page_list::{copy_pages, drop_page, mapping_at, place_for, put_page};
 use crate::table_list::{copy_tables, drop_table, frame_of, piece_of, put_table};
 use osc_frames::Frames;
@@ -27,10 +28,12 @@ use osc_word::{Job, Jobs, WordAt};
 use std::alloc::{AllocError, Global};
 use std::marker::Model;
 
-/// The page tables of one process. They are closed, or open with a topmost table. A leaf table that
+/// The page tables of one process, of three or four levels. They are closed, or open with a topmost table. A leaf table that
 /// was given up stands aside until its frame is given back.
 #[derive(Drop)]
 pub struct Tables {
+    /// The level of the topmost table, one less than the number of levels.
+    top: u8,
     pages: Vec<Mapped>,
     tables: Vec<TableFrame>,
     aside: Vec<TableFrame>,
@@ -46,9 +49,9 @@ impl Model for Tables {
 
     ghost Value = { KeptTables };
 
-    ghost view = { λ t. kept t.pages.items t.tables.items t.aside.items t.room t.count };
+    ghost view = { λ t. kept t.top t.pages.items t.tables.items t.aside.items t.room t.count };
 
-    ghost invariant = { λ t. IsKept 3 t.pages.items t.tables.items t.aside.items t.room t.count
+    ghost invariant = { λ t. IsKept t.top t.pages.items t.tables.items t.aside.items t.room t.count
         × (t.room ≤ vec_capacity t.pages) × (t.count ≤ vec_capacity t.tables) × (t.count ≤ vec_capacity t.aside) };
 }
 
@@ -80,30 +83,41 @@ fn put_word(table: u32, number: u64, value: u64) -> Job
     }
 }
 
-/// The place of a table.
-fn place_of(piece: Piece) -> TablePlace
-    requires level { piece.level < 3 }
-    requires range { piece.number * 512 ^ suc piece.level < 512 ^ 3 }
-    ensures { result ≡ place_of 2 piece }
+/// How many pages a table of a level covers.
+fn pages_below(level: u8) -> u64
+    requires { level ≤ 3 }
+    ensures { result ≡ 512 ^ suc level }
 {
-    let first = match piece.level {
-        0 => piece.number * 512,
-        1 => piece.number * (512 * 512),
-        _ => piece.number * (512 * 512 * 512),
-    };
+    match level {
+        0 => 512,
+        1 => 512 * 512,
+        2 => 512 * 512 * 512,
+        _ => 512 * 512 * 512 * 512,
+    }
+}
+
+/// The place of a table.
+fn place_of(piece: Piece, top: u8) -> TablePlace
+    requires top { IsTop top }
+    requires level { piece.level ≤ top }
+    requires range { piece.number * 512 ^ suc piece.level < 512 ^ suc top }
+    ensures { result ≡ place_below top piece }
+{
+    let first = piece.number * pages_below(piece.level);
     TablePlace {
         level: piece.level,
-        first: page_of(first),
+        first: page_of(first, top),
     }
 }
 
 /// The place of the table in a frame.
-fn place_in(tables: &[TableFrame], frame: u32) -> Option<TablePlace>
-    requires { LieWithin 3 tables.now }
-    ensures { result ≡ option_map (place_of 2) (piece_of tables.now frame) }
+fn place_in(tables: &[TableFrame], frame: u32, top: u8) -> Option<TablePlace>
+    requires top { IsTop top }
+    requires tables { LieWithin (suc top) tables.now }
+    ensures { result ≡ option_map (place_below top) (piece_of tables.now frame) }
 {
     let piece = piece_of(tables, frame)?;
-    Some(place_of(piece))
+    Some(place_of(piece, top))
 }
 
 /// Gives the frames of tables back.
@@ -118,11 +132,14 @@ fn give_all(tables: &[TableFrame], frames: &mut Frames)
 }
 
 impl Tables {
-    /// Closed tables of a machine with so many frames, with room for so many mapped pages.
-    pub fn new(alloc: Global, frames: u32, pages: u32) -> Result<Tables, AllocError>
-        ensures { IfOk result (λ t. t ≡ closed frames pages) }
+    /// Closed tables of three or four levels, of a machine with so many frames, with room for so many
+    /// mapped pages.
+    pub fn new(alloc: Global, frames: u32, pages: u32, levels: u8) -> Result<Tables, AllocError>
+        requires { IsLevels levels }
+        ensures { IfOk result (λ t. t ≡ closed levels frames pages) }
     {
         Ok(Tables {
+            top: levels - 1,
             pages: Vec::with_capacity(alloc, pages as usize)?,
             tables: Vec::with_capacity(alloc, frames as usize)?,
             aside: Vec::with_capacity(alloc, frames as usize)?,
@@ -133,17 +150,17 @@ impl Tables {
 
     /// The frame of the topmost table.
     pub fn root(&self) -> u32
-        requires { IsOpen 2 self.now }
-        ensures { root_of 2 self.now ≡ Some result }
+        requires { IsOpen self.now }
+        ensures { root_of self.now ≡ Some result }
     {
-        frame_of(&self.tables, 2, 0).unwrap()
+        frame_of(&self.tables, self.top, 0).unwrap()
     }
 
     /// The mapping of a page; None exactly where it is not mapped.
     pub fn at(&self, page: u64) -> Option<Mapping>
-        ensures { result ≡ mapping_of 3 self.now page }
+        ensures { result ≡ mapping_of self.now page }
     {
-        let number = number_in_range(page)?;
+        let number = number_in_range(page, self.top)?;
         mapping_at(&self.pages, number)
     }
 
@@ -157,17 +174,17 @@ impl Tables {
     /// The place of the table in a frame; None exactly where the frame is no table of this
     /// process. A leaf aside is one.
     pub fn table_at(&self, frame: u32) -> Option<TablePlace>
-        ensures { result ≡ table_at 2 self.now frame }
+        ensures { result ≡ table_at self.now frame }
     {
-        match place_in(&self.tables, frame) {
+        match place_in(&self.tables, frame, self.top) {
             Some(place) => Some(place),
-            None => place_in(&self.aside, frame),
+            None => place_in(&self.aside, frame, self.top),
         }
     }
 
     /// The word that the kept tables have in a table. A leaf aside has only words 0.
     pub fn entry(&self, frame: u32, index: u16) -> u64
-        requires table { IsSome (table_at 2 self.now frame) }
+        requires table { IsSome (table_at self.now frame) }
         requires index { index < 512 }
         ensures { result ≡ kept_word self.now frame index }
     {
@@ -186,13 +203,13 @@ impl Tables {
 
     /// The least mapped page at or above another; None exactly where there is none.
     pub fn next_page(&self, from: u64) -> Option<u64>
-        ensures { MatchOption result (NoneFrom 3 self.now from) (IsNextPage 3 self.now from) }
+        ensures { MatchOption result (NoneFrom self.now from) (IsNextPage self.now from) }
     {
-        let number = least_from(from)?;
+        let number = least_from(from, self.top)?;
         let at = place_for(&self.pages, number);
         if at < self.pages.len() {
             let found = self.pages[at].number;
-            Some(page_of(found))
+            Some(page_of(found, self.top))
         } else {
             None
         }
@@ -200,19 +217,19 @@ impl Tables {
 
     /// The table frames that mapping so many pages newly takes.
     pub fn need(&self, first: u64, count: u64) -> u64
-        requires { AllCanonical 3 first count }
-        ensures { result ≡ need self.now.tables 2 (number_of 3 first) count }
+        requires { AllCanonical (levels_of self.now) first count }
+        ensures { result ≡ need self.now (number_of (levels_of self.now) first) count }
     {
         if count == 0 {
             return 0;
         }
-        need_below(&self.tables, 2, first & 0x7ff_ffff, count)
+        need_below(&self.tables, self.top, number_of(first, self.top), count)
     }
 
     /// Puts a table over a piece, and links it in its parent.
     fn add_table(&mut self, new: TableFrame, parent: u32, jobs: &mut Jobs)
-        requires level { new.piece.level < 3 }
-        requires range { new.piece.number * 512 ^ suc new.piece.level < 512 ^ 3 }
+        requires level { new.piece.level < levels_of self.old }
+        requires range { new.piece.number * 512 ^ suc new.piece.level < 512 ^ levels_of self.old }
         requires absent { frame_of self.old.tables new.piece.level new.piece.number ≡ None }
         requires fresh { IsFresh self.old new.frame }
         requires spare { 2 ≤ spare jobs.old }
@@ -234,8 +251,8 @@ impl Tables {
 
     /// Links the table of this level over a piece, where it is missing: in the least free frame.
     fn link(&mut self, level: u8, number: u64, frames: &mut Frames, jobs: &mut Jobs)
-        requires level { level < 2 }
-        requires range { number * 512 ^ suc level < 512 ^ 3 }
+        requires level { level < self.old.top }
+        requires range { number * 512 ^ suc level < 512 ^ levels_of self.old }
         requires taken { HasTaken self.old frames.old }
         requires spare { 2 ≤ spare jobs.old }
         ensures next { changed self.new frames.new jobs.new.pushed ≡ link level number (changed self.old frames.old jobs.old.pushed) }
@@ -257,16 +274,16 @@ impl Tables {
 
     /// Links all tables over a page that are missing, from the top.
     fn link_down(&mut self, number: u64, frames: &mut Frames, jobs: &mut Jobs)
-        requires range { number < 512 ^ 3 }
+        requires range { number < 512 ^ levels_of self.old }
         requires taken { HasTaken self.old frames.old }
-        requires spare { 4 ≤ spare jobs.old }
-        ensures next { changed self.new frames.new jobs.new.pushed ≡ link_all 2 number (changed self.old frames.old jobs.old.pushed) }
+        requires spare { 2 * self.old.top ≤ spare jobs.old }
+        ensures next { changed self.new frames.new jobs.new.pushed ≡ link_all self.old.top number (changed self.old frames.old jobs.old.pushed) }
         ensures taken { HasTaken self.new frames.new }
         ensures room { jobs.new.room ≡ jobs.old.room }
-        ensures few { spare jobs.old ≤ spare jobs.new + 4 }
+        ensures few { spare jobs.old ≤ spare jobs.new + 2 * self.old.top }
         ensures rest { self.new ≡ record self.old { tables = self.new.tables } }
     {
-        let mut level = 2;
+        let mut level = self.top;
         while level > 0 {
             let above = piece_over(level, number);
             level -= 1;
@@ -276,13 +293,13 @@ impl Tables {
 
     /// Maps the page of a number.
     fn map_number(&mut self, number: u64, mapping: Mapping, frames: &mut Frames, jobs: &mut Jobs)
-        requires range { number < 512 ^ 3 }
+        requires range { number < 512 ^ levels_of self.old }
         requires unmapped { mapping_at self.old.pages number ≡ None }
         requires left { 0 < left self.old }
         requires taken { HasTaken self.old frames.old }
-        requires spare { 5 ≤ spare jobs.old }
+        requires spare { 2 * self.old.top < spare jobs.old }
         ensures next { changed self.new frames.new jobs.new.pushed
-            ≡ map_page 2 number mapping (changed self.old frames.old jobs.old.pushed) }
+            ≡ map_page number mapping (changed self.old frames.old jobs.old.pushed) }
         ensures taken { HasTaken self.new frames.new }
         ensures room { jobs.new.room ≡ jobs.old.room }
     {
@@ -295,27 +312,30 @@ impl Tables {
 
     /// Maps a page: the tables over it that are missing are linked, and its leaf is put.
     pub fn map(&mut self, page: u64, mapping: Mapping, frames: &mut Frames, jobs: &mut Jobs)
-        requires opened { IsOpen 2 self.old }
-        requires canonical { IsTrue (is_canonical 3 page) }
+        requires opened { IsOpen self.old }
+        requires canonical { IsTrue (is_canonical (levels_of self.old) page) }
         requires leaf { ReadsAsLeaf mapping }
-        requires unmapped { mapping_of 3 self.old page ≡ None }
+        requires unmapped { mapping_of self.old page ≡ None }
         requires left { 0 < left self.old }
         requires taken { HasTaken self.old frames.old }
-        requires need { need self.old.tables 2 (number_of 3 page) 1 ≤ free_count frames.old }
-        requires spare { 5 ≤ spare jobs.old }
+        requires need { need self.old (number_of (levels_of self.old) page) 1 ≤ free_count frames.old }
+        requires spare { 7 ≤ spare jobs.old }
 
         // Tables, frames and jobs are those of the rule.
         ensures next { changed self.new frames.new jobs.new.pushed
-            ≡ map_page 2 (number_of 3 page) mapping (changed self.old frames.old jobs.old.pushed) }
+            ≡ map_page (number_of (levels_of self.old) page) mapping (changed self.old frames.old jobs.old.pushed) }
         ensures taken { HasTaken self.new frames.new }
         ensures room { jobs.new.room ≡ jobs.old.room }
 
-        // So the page is mapped, no other page changes, and the frames are those that were needed.
-        ensures mapped { MapsTo 3 page (Some mapping) self.old self.new }
-        ensures root { root_of 2 self.new ≡ root_of 2 self.old }
-        ensures frames { free_count frames.new + need self.old.tables 2 (number_of 3 page) 1 ≡ free_count frames.old }
+        // So the page is mapped, no other page changes, and the frames are those that were needed. The
+        // topmost table and its level stay.
+        ensures mapped { MapsTo page (Some mapping) self.old self.new }
+        ensures root { root_of self.new ≡ root_of self.old }
+        ensures top { self.new.top ≡ self.old.top }
+        ensures frames { free_count frames.new + need self.old (number_of (levels_of self.old) page) 1 ≡ free_count frames.old }
     {
-        self.map_number(page & 0x7ff_ffff, mapping, frames, jobs);
+        let number = number_of(page, self.top);
+        self.map_number(number, mapping, frames, jobs);
     }
 
     /// Unmaps the page of a number.
@@ -334,20 +354,22 @@ impl Tables {
 
     /// Unmaps a page: its leaf is cleared, and its leaf table stays.
     pub fn unmap(&mut self, page: u64, jobs: &mut Jobs)
-        requires mapped { IsSome (mapping_of 3 self.old page) }
+        requires mapped { IsSome (mapping_of self.old page) }
         requires spare { 1 ≤ spare jobs.old }
 
         // Tables and jobs are those of the rule.
         ensures next { (free : List Bool) → changed self.new free jobs.new.pushed
-            ≡ unmap_page (number_of 3 page) (changed self.old free jobs.old.pushed) }
+            ≡ unmap_page (number_of (levels_of self.old) page) (changed self.old free jobs.old.pushed) }
         ensures room { jobs.new.room ≡ jobs.old.room }
 
         // So the page is mapped no more, no other page changes, and the topmost table stays.
-        ensures unmapped { MapsTo 3 page None self.old self.new }
-        ensures root { root_of 2 self.new ≡ root_of 2 self.old }
+        ensures unmapped { MapsTo page None self.old self.new }
+        ensures root { root_of self.new ≡ root_of self.old }
+        ensures top { self.new.top ≡ self.old.top }
         ensures taken { (free : List Bool) → HasTaken self.old free → HasTaken self.new free }
     {
-        self.unmap_number(page & 0x7ff_ffff, jobs);
+        let number = number_of(page, self.top);
+        self.unmap_number(number, jobs);
     }
 
     /// Takes a leaf table out of the tables, and keeps its frame aside.
@@ -366,15 +388,16 @@ impl Tables {
 
     /// Unlinks a leaf table that has no entry. Its frame stands aside until `give_leaves`.
     pub fn reclaim(&mut self, leaf: u64, jobs: &mut Jobs)
-        requires leaf { IsEmptyLeaf 3 self.old leaf }
+        requires leaf { IsEmptyLeaf self.old leaf }
         requires spare { 1 ≤ spare jobs.old }
         ensures next { (free : List Bool) → changed self.new free jobs.new.pushed
-            ≡ reclaim (number_of 2 leaf) (changed self.old free jobs.old.pushed) }
-        ensures root { root_of 2 self.new ≡ root_of 2 self.old }
+            ≡ reclaim (number_of self.old.top leaf) (changed self.old free jobs.old.pushed) }
+        ensures root { root_of self.new ≡ root_of self.old }
+        ensures top { self.new.top ≡ self.old.top }
         ensures room { jobs.new.room ≡ jobs.old.room }
         ensures taken { (free : List Bool) → HasTaken self.old free → HasTaken self.new free }
     {
-        let number = leaf & 0x3_ffff;
+        let number = leaf_number(leaf, self.top);
         if let Some(frame) = frame_of(&self.tables, 0, number) {
             if let Some(parent) = frame_of(&self.tables, 1, number / 512) {
                 self.set_aside(number, frame);
@@ -387,7 +410,8 @@ impl Tables {
     pub fn give_leaves(&mut self, frames: &mut Frames)
         requires taken { HasTaken self.old frames.old }
         ensures next { (jobs : List Job) → changed self.new frames.new jobs ≡ give_leaves (changed self.old frames.old jobs) }
-        ensures root { root_of 2 self.new ≡ root_of 2 self.old }
+        ensures root { root_of self.new ≡ root_of self.old }
+        ensures top { self.new.top ≡ self.old.top }
         ensures taken { HasTaken self.new frames.new }
     {
         give_all(&self.aside, frames);
@@ -399,10 +423,10 @@ impl Tables {
     pub fn open(&mut self, root: u32)
         requires closed { IsClosed self.old }
         requires taken { root < self.old.count }
-        ensures { self.new ≡ opened 2 root self.old }
+        ensures { self.new ≡ opened root self.old }
     {
         let piece = Piece {
-            level: 2,
+            level: self.top,
             number: 0,
         };
         self.tables.push(TableFrame { piece, frame: root }).unwrap();
@@ -410,10 +434,10 @@ impl Tables {
 
     /// Closes open tables without a leaf aside, and gives their frames back.
     pub fn close(&mut self, frames: &mut Frames)
-        requires opened { IsOpen 2 self.old }
+        requires opened { IsOpen self.old }
         requires aside { self.old.aside ≡ [] }
         requires taken { HasTaken self.old frames.old }
-        ensures closed { self.new ≡ closed self.old.count self.old.room }
+        ensures closed { self.new ≡ closed (levels_of self.old) self.old.count self.old.room }
         ensures given { frames.new ≡ frames_given self.old.tables frames.old }
     {
         give_all(&self.tables, frames);
@@ -425,9 +449,9 @@ impl Tables {
     /// Copies open tables without a leaf aside to closed ones of the same machine, with each frame
     /// under its new name.
     pub fn copy_to(&self, child: &mut Tables, names: &[u32])
-        requires opened { IsOpen 2 self.now }
+        requires opened { IsOpen self.now }
         requires aside { self.now.aside ≡ [] }
-        requires closed { child.old ≡ closed self.now.count self.now.room }
+        requires closed { child.old ≡ closed (levels_of self.now) self.now.count self.now.room }
         requires names { CanRename self.now names.now }
         ensures { child.new ≡ renamed names.now self.now }
     {
@@ -438,10 +462,18 @@ impl Tables {
 
 #[cfg(test)]
 impl Tables {
-    /// Whether the leaf table of a number is linked.
-    pub fn is_linked(&self, number: u64) -> bool
-        ensures { result ≡ is_some (frame_of self.now.tables 0 number) }
+    /// Whether a leaf table is linked.
+    pub fn is_linked(&self, leaf: u64) -> bool
+        ensures { result ≡ is_some (frame_of self.now.tables 0 (number_of self.now.top leaf)) }
     {
+        let number = leaf_number(leaf, self.top);
         frame_of(&self.tables, 0, number).is_some()
+    }
+
+    /// Whether `split` takes the address of a page.
+    pub fn reaches(&self, page: u64) -> bool
+        ensures { result ≡ is_canonical (levels_of self.now) page }
+    {
+        crate::numbers::is_canonical(page, self.top)
     }
 }

@@ -1,6 +1,6 @@
 //! The page tables of one process as the kernel keeps them. Each change also pushes the jobs that
 //! make the words of memory agree with it; that they do, and that a walk over the words then gives
-//! exactly the kept mapping, are the laws that stand beside `Tables`. There are three levels.
+//! exactly the kept mapping, are the laws that stand beside `Tables`. There are three levels or four.
 #![tactic(auto)]
 
 mod kept;

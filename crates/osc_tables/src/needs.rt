@@ -2,7 +2,7 @@
 #![tactic(auto, using(crate::proofs::Pieces::need_facts))]
 
 ghost use Rattle.std.specs.Prelude.{◌≡◌, ◌+◌, ◌<◌, ◌≤◌, ◌^◌};
-ghost use Rattle.osc_paging.specs.KeptTables.{missing, need};
+ghost use Rattle.osc_paging.specs.KeptTables.{missing, need_below};
 ghost use Rattle.osc_tables.specs.Inside.{InOrder};
 
 use crate::numbers::{piece_over, pieces_over};
@@ -28,8 +28,8 @@ fn missing(tables: &[TableFrame], level: u8, from: u64, count: u64) -> u64
 /// The table frames that mapping so many pages newly takes, below a topmost table of this level.
 pub fn need_below(tables: &[TableFrame], top: u8, first: u64, count: u64) -> u64
     requires order { InOrder tables.now }
-    requires range { first + count ≤ 2 ^ 27 }
-    ensures { result ≡ need tables.now top first count }
+    requires range { first + count ≤ 2 ^ 36 }
+    ensures { result ≡ need_below tables.now top first count }
 {
     let mut total = 0;
     let mut level = top;

@@ -1,34 +1,86 @@
-//! Pages and their numbers in the range of three levels of tables.
+//! Pages and their numbers in the range of the tables. `top` is the level of the topmost table, one
+//! less than the number of levels.
 #![tactic(auto, using(crate::proofs::Pieces::piece_facts))]
 
-ghost use Rattle.std.specs.Prelude.{◌≡◌, ◌<◌, ◌^◌, if◌then◌else◌, Option};
+ghost use Rattle.std.specs.Prelude.{◌≡◌, ◌<◌, ◌*◌, ◌^◌, suc, if◌then◌else◌, Option};
 ghost use Rattle.osc_sv39.specs.Walk.{is_canonical, number_of, piece};
 ghost use Rattle.std.specs.Prelude.{◌+◌, ◌≤◌};
-ghost use Rattle.osc_paging.specs.KeptTables.{page_numbered, pieces_over};
-ghost use Rattle.osc_tables.specs.Places.{least_from};
+ghost use Rattle.osc_paging.specs.KeptTables.{canonical_page, pieces_over};
+ghost use Rattle.osc_tables.specs.Places.{half, least_from};
+ghost use Rattle.osc_tables.specs.Inside.{IsTop};
+
+/// How many pages are in the lower half of the range.
+fn half(top: u8) -> u64
+    requires { IsTop top }
+    ensures half { result ≡ half top }
+    ensures whole { result * 2 ≡ 512 ^ suc top }
+    ensures range { result ≤ 2 ^ 35 }
+{
+    if top == 2 { 1 << 26 } else { 1 << 35 }
+}
+
+/// Whether the addresses of a page are canonical.
+pub fn is_canonical(page: u64, top: u8) -> bool
+    requires { IsTop top }
+    ensures { result ≡ is_canonical (suc top) page }
+{
+    if top == 2 {
+        let high = page >> 26;
+        high == 0 || high == 0x3ff_ffff
+    } else {
+        let high = page >> 35;
+        high == 0 || high == 0x1_ffff
+    }
+}
+
+/// The number of a page in the range of the tables.
+pub fn number_of(page: u64, top: u8) -> u64
+    requires { IsTop top }
+    ensures { result ≡ number_of (suc top) page }
+{
+    if top == 2 {
+        page & 0x7ff_ffff
+    } else {
+        page & 0xf_ffff_ffff
+    }
+}
+
+/// The number of a leaf table in the range of the tables.
+pub fn leaf_number(leaf: u64, top: u8) -> u64
+    requires { IsTop top }
+    ensures { result ≡ number_of top leaf }
+{
+    if top == 2 {
+        leaf & 0x3_ffff
+    } else {
+        leaf & 0x7ff_ffff
+    }
+}
 
 /// The number of a page in the range of the tables; None exactly where its addresses are not
 /// canonical.
-pub fn number_in_range(page: u64) -> Option<u64>
-    ensures { result ≡ (if is_canonical 3 page then Some (number_of 3 page) else None) }
+pub fn number_in_range(page: u64, top: u8) -> Option<u64>
+    requires { IsTop top }
+    ensures { result ≡ (if is_canonical (suc top) page then Some (number_of (suc top) page) else None) }
 {
-    let high = page >> 26;
-    if high == 0 || high == 0x3ff_ffff {
-        Some(page & 0x7ff_ffff)
+    if is_canonical(page, top) {
+        Some(number_of(page, top))
     } else {
         None
     }
 }
 
 /// The canonical page of a number.
-pub fn page_of(number: u64) -> u64
-    requires { number < 512 ^ 3 }
-    ensures { result ≡ page_numbered 3 number }
+pub fn page_of(number: u64, top: u8) -> u64
+    requires top { IsTop top }
+    requires range { number < 512 ^ suc top }
+    ensures { result ≡ canonical_page (suc top) number }
 {
-    if number < 1 << 26 {
+    let half = half(top);
+    if number < half {
         number
     } else {
-        (1 << 52) - (1 << 27) + number
+        (1 << 52) - half * 2 + number
     }
 }
 
@@ -47,15 +99,17 @@ pub fn piece_over(level: u8, number: u64) -> u64
 }
 
 /// The least number of a page at or above another; None where there is no canonical page.
-pub fn least_from(page: u64) -> Option<u64>
-    ensures { result ≡ least_from page }
+pub fn least_from(page: u64, top: u8) -> Option<u64>
+    requires { IsTop top }
+    ensures { result ≡ least_from top page }
 {
-    if page < 1 << 26 {
+    let half = half(top);
+    if page < half {
         Some(page)
-    } else if page <= (1 << 52) - (1 << 26) {
-        Some(1 << 26)
+    } else if page <= (1 << 52) - half {
+        Some(half)
     } else if page < 1 << 52 {
-        Some(page & 0x7ff_ffff)
+        Some(number_of(page, top))
     } else {
         None
     }

@@ -1,12 +1,12 @@
 //! Lists of mapped pages in the order of their numbers.
 #![tactic(auto, using(crate::proofs::PagePlaces::page_places))]
 
-ghost use Rattle.std.specs.Prelude.{◌≡◌, ◌+◌, ◌<◌, ◌≤◌, ◌^◌, length, MatchOption, All, map, []};
+ghost use Rattle.std.specs.Prelude.{◌≡◌, ◌+◌, ◌<◌, ◌≤◌, length, MatchOption, All, map, []};
 ghost use Rattle.std.specs.Vec.{vec_len, vec_capacity};
 ghost use Rattle.osc_paging.specs.KeptTables.{mapping_at};
 ghost use Rattle.osc_paging.specs.TableChanges.{renamed_page, with_page, without_page};
 ghost use Rattle.osc_paging.specs.declared.Mapped.{Mapped};
-ghost use Rattle.osc_tables.specs.Inside.{AscendWithin};
+ghost use Rattle.osc_tables.specs.Inside.{AscendFrom};
 ghost use Rattle.osc_tables.specs.Places.{place_for, StandsAt};
 
 use osc_paging::Mapped;
@@ -14,7 +14,7 @@ use osc_sv39::Mapping;
 
 /// How many pages have a lower number.
 pub fn place_for(pages: &[Mapped], number: u64) -> usize
-    requires { AscendWithin 0 (512 ^ 3) pages.now }
+    requires { AscendFrom 0 pages.now }
     ensures place { result ≡ place_for number pages.now }
     ensures within { result ≤ length pages.now }
 {
@@ -33,7 +33,7 @@ pub fn place_for(pages: &[Mapped], number: u64) -> usize
 
 /// Where the page of a number stands; None exactly where it is not mapped.
 fn find_page(pages: &[Mapped], number: u64) -> Option<usize>
-    requires { AscendWithin 0 (512 ^ 3) pages.now }
+    requires { AscendFrom 0 pages.now }
     ensures { MatchOption result (mapping_at pages.now number ≡ None) (StandsAt number pages.now) }
 {
     let at = place_for(pages, number);
@@ -48,7 +48,7 @@ fn find_page(pages: &[Mapped], number: u64) -> Option<usize>
 
 /// The mapping of the page of a number.
 pub fn mapping_at(pages: &[Mapped], number: u64) -> Option<Mapping>
-    requires { AscendWithin 0 (512 ^ 3) pages.now }
+    requires { AscendFrom 0 pages.now }
     ensures { result ≡ mapping_at pages.now number }
 {
     let at = find_page(pages, number)?;
@@ -57,7 +57,7 @@ pub fn mapping_at(pages: &[Mapped], number: u64) -> Option<Mapping>
 
 /// Puts a page in its place.
 pub fn put_page(pages: &mut Vec<Mapped>, number: u64, mapping: Mapping)
-    requires ascend { AscendWithin 0 (512 ^ 3) pages.old.items }
+    requires ascend { AscendFrom 0 pages.old.items }
     requires room { vec_len pages.old < vec_capacity pages.old }
     ensures items { pages.new.items ≡ with_page number mapping pages.old.items }
     ensures len { vec_len pages.new ≡ vec_len pages.old + 1 }
@@ -69,7 +69,7 @@ pub fn put_page(pages: &mut Vec<Mapped>, number: u64, mapping: Mapping)
 
 /// Takes a page away.
 pub fn drop_page(pages: &mut Vec<Mapped>, number: u64)
-    requires ascend { AscendWithin 0 (512 ^ 3) pages.old.items }
+    requires ascend { AscendFrom 0 pages.old.items }
     ensures items { pages.new.items ≡ without_page number pages.old.items }
     ensures len { vec_len pages.new ≤ vec_len pages.old }
     ensures capacity { vec_capacity pages.old ≤ vec_capacity pages.new }

@@ -1,7 +1,7 @@
-ghost use Rattle.std.specs.Prelude.{◌≡◌, ◌<◌, [], IsSome, length};
-ghost use Rattle.osc_paging.specs.KeptTables.{closed, root_of};
+ghost use Rattle.std.specs.Prelude.{◌≡◌, ◌<◌, length};
+ghost use Rattle.osc_sv39.specs.Walk.{IsLevels};
 ghost use Rattle.osc_paging.specs.TableChanges.{opened};
-ghost use Rattle.osc_tables.specs.Calls.{HasTaken, IsOpen};
+ghost use Rattle.osc_tables.specs.Calls.{HasTaken, IsClosed, IsOpen};
 
 use crate::{TablePlace, Tables};
 use osc_frames::Frames;
@@ -16,16 +16,27 @@ const READ_EXECUTE: PteBits = PteBits(0xdb);
 
 /// Opens closed tables on the least free frame.
 fn open_on(rt: &impl Abort, tables: &mut Tables, frames: &mut Frames) -> u32
-    requires closed { tables.old ≡ closed 64 128 }
+    requires closed { IsClosed tables.old }
+    requires frames { tables.old.count ≡ 64 }
     requires count { length frames.old ≡ 64 }
-    ensures exact { tables.new ≡ opened 2 result tables.old }
+    ensures exact { tables.new ≡ opened result tables.old }
     ensures frame { result < 64 }
-    ensures opened { IsOpen 2 tables.new }
+    ensures opened { IsOpen tables.new }
     ensures taken { HasTaken tables.new frames.new }
 {
     let root = frames.take().expect(rt, "no frame");
     tables.open(root);
     root
+}
+
+/// The need of pages, after looking whether it may be asked.
+fn need_on(rt: &impl Abort, tables: &Tables, first: u64, count: u64) -> u64 {
+    assert!(rt; first < 0x1_0000_0000);
+    assert!(rt; count < 0x1000);
+    for k in 0..count {
+        assert!(rt; tables.reaches(first + k));
+    }
+    tables.need(first, count)
 }
 
 /// Maps a page, after looking whether that may be done.
@@ -37,19 +48,19 @@ fn map_on(
     frames: &mut Frames,
     jobs: &mut Jobs,
 )
-    requires opened { IsOpen 2 tables.old }
+    requires opened { IsOpen tables.old }
     requires taken { HasTaken tables.old frames.old }
-    ensures opened { IsOpen 2 tables.new }
+    ensures opened { IsOpen tables.new }
     ensures taken { HasTaken tables.new frames.new }
 {
-    assert!(rt; page >> 26 == 0 || page >> 26 == 0x3ff_ffff);
+    assert!(rt; tables.reaches(page));
     assert!(rt;
         read_pte(leaf(mapping.frame, mapping.bits)) == PteEntry::Leaf(mapping.frame, mapping.bits)
     );
     assert!(rt; tables.at(page).is_none());
     assert!(rt; tables.left() > 0);
     assert!(rt; tables.need(page, 1) <= u64::from(frames.free_count()));
-    assert!(rt; jobs.spare() >= 5);
+    assert!(rt; jobs.spare() >= 7);
     tables.map(page, mapping, frames, jobs);
 }
 
@@ -63,12 +74,13 @@ fn unmap_on(rt: &impl Abort, tables: &mut Tables, page: u64, frames: &Frames, jo
     tables.unmap(page, jobs);
 }
 
-/// Gives up a leaf table of the lower half that has no entry.
+/// Gives up a leaf table that has no entry.
 fn reclaim_on(rt: &impl Abort, tables: &mut Tables, leaf: u64, frames: &Frames, jobs: &mut Jobs)
     requires taken { HasTaken tables.old frames.now }
     ensures taken { HasTaken tables.new frames.now }
 {
-    assert!(rt; leaf < 0x2_0000);
+    assert!(rt; leaf < 0x1000_0000);
+    assert!(rt; tables.reaches(leaf * 512));
     assert!(rt; tables.is_linked(leaf));
     for i in 0..512 {
         assert!(rt; tables.at(leaf * 512 + i).is_none());
@@ -99,23 +111,46 @@ fn do_jobs(rt: &impl Abort, jobs: &mut Jobs, words: &mut [u64]) {
     jobs.clear();
 }
 
+/// What an entry of a table says.
+fn entry(words: &[u64], table: u32, index: u16) -> Option<PteEntry> {
+    let word = words.get(table as usize * 512 + index as usize)?;
+    Some(read_pte(*word))
+}
+
+/// The table that an entry links.
+fn next_table(words: &[u64], table: u32, index: u16) -> Option<u32> {
+    match entry(words, table, index)? {
+        PteEntry::Table(frame) => Some(frame),
+        _ => None,
+    }
+}
+
 /// The mapping that a walk over the words finds.
-fn walk(words: &[u64], root: u32, address: u64) -> Option<Mapping> {
-    let [first, second, third] = split(address)?;
-    let word = |frame: u32, index: u16| words.get(frame as usize * 512 + index as usize).copied();
-    let PteEntry::Table(middle) = read_pte(word(root, first)?) else {
-        return None;
-    };
-    let PteEntry::Table(last) = read_pte(word(middle, second)?) else {
-        return None;
-    };
-    match read_pte(word(last, third)?) {
+fn walk(words: &[u64], root: u32, address: u64, levels: u8) -> Option<Mapping>
+    requires { IsLevels levels }
+{
+    let [first, second, third, fourth] = split(address, levels)?;
+    let mut table = root;
+    if levels == 4 {
+        table = next_table(words, table, first)?;
+    }
+    table = next_table(words, table, second)?;
+    table = next_table(words, table, third)?;
+    match entry(words, table, fourth)? {
         PteEntry::Leaf(frame, bits) => Some(Mapping { frame, bits }),
         _ => None,
     }
 }
 
-const PAGES: [u64; 8] = [
+/// Pages to be mapped, and the tables that are walked.
+#[derive(Clone, Copy)]
+struct Walks {
+    pages: [u64; 8],
+    levels: u8,
+    root: u32,
+}
+
+const THREE_LEVELS: [u64; 8] = [
     0x10,
     0x11,
     0x1ff,
@@ -126,13 +161,34 @@ const PAGES: [u64; 8] = [
     0xf_ffff_ffff_ffff,
 ];
 
+const FOUR_LEVELS: [u64; 8] = [
+    0x10,
+    0x11,
+    0x12,
+    0x400_0000,
+    0x800_0000,
+    0x7_ffff_ffff,
+    0xf_fff8_0000_0000,
+    0xf_ffff_ffff_ffff,
+];
+
 /// The walk finds what the tables keep, at pages that are mapped and at others.
-fn agree(rt: &impl Abort, tables: &Tables, words: &[u64], root: u32) {
-    for page in PAGES {
-        assert_eq!(rt; walk(words, root, page << 12 | 0x123), tables.at(page));
+fn agree(rt: &impl Abort, tables: &Tables, words: &[u64], walks: Walks)
+    requires { IsLevels walks.levels }
+{
+    for page in walks.pages {
+        let found = walk(words, walks.root, page << 12 | 0x123, walks.levels);
+        assert_eq!(rt; found, tables.at(page));
     }
-    for address in [0, 0x8000_0000, 0x40_0000_0000, 0x8000_0000_0000_0000] {
-        assert_eq!(rt; walk(words, root, address), tables.at(address >> 12));
+    for address in [
+        0,
+        0x8000_0000,
+        0x40_0000_0000,
+        0x8000_0000_0000,
+        0x8000_0000_0000_0000,
+    ] {
+        let found = walk(words, walks.root, address, walks.levels);
+        assert_eq!(rt; found, tables.at(address >> 12));
     }
 }
 
@@ -140,11 +196,11 @@ fn agree(rt: &impl Abort, tables: &Tables, words: &[u64], root: u32) {
 fn first_mapping(rt: HostRuntime) -> Result<(), Fail> {
     let mut frames = Frames::new(rt.alloc(), 64)?;
     let mut jobs = Jobs::new(rt.alloc(), 64)?;
-    let mut tables = Tables::new(rt.alloc(), 64, 128)?;
+    let mut tables = Tables::new(rt.alloc(), 64, 128, 3)?;
     let root = open_on(&rt, &mut tables, &mut frames);
     assert_eq!(rt; root, 0);
     assert_eq!(rt; tables.root(), 0);
-    assert_eq!(rt; tables.need(0x10, 0x200), 3);
+    assert_eq!(rt; need_on(&rt, &tables, 0x10, 0x200), 3);
     map_on(
         &rt,
         &mut tables,
@@ -172,8 +228,8 @@ fn first_mapping(rt: HostRuntime) -> Result<(), Fail> {
     assert_eq!(rt; jobs.get(5), None);
     assert_eq!(rt; frames.free_count(), 61);
     assert_eq!(rt; tables.left(), 127);
-    assert_eq!(rt; tables.need(0x10, 0x1f0), 0);
-    assert_eq!(rt; tables.need(0x10, 0x1f1), 1);
+    assert_eq!(rt; need_on(&rt, &tables, 0x10, 0x1f0), 0);
+    assert_eq!(rt; need_on(&rt, &tables, 0x10, 0x1f1), 1);
     assert_eq!(rt; tables.table_at(0), Some(TablePlace { level: 2, first: 0 }));
     assert_eq!(rt; tables.table_at(1), Some(TablePlace { level: 1, first: 0 }));
     assert_eq!(rt; tables.table_at(2), Some(TablePlace { level: 0, first: 0 }));
@@ -200,15 +256,16 @@ fn map_each(
     frames: &mut Frames,
     jobs: &mut Jobs,
     words: &mut [u64],
-    root: u32,
+    walks: Walks,
 )
-    requires opened { IsOpen 2 tables.old }
+    requires levels { IsLevels walks.levels }
+    requires opened { IsOpen tables.old }
     requires taken { HasTaken tables.old frames.old }
-    ensures opened { IsOpen 2 tables.new }
+    ensures opened { IsOpen tables.new }
     ensures taken { HasTaken tables.new frames.new }
 {
     let mut frame = 40;
-    for page in PAGES {
+    for page in walks.pages {
         let bits = if page % 2 == 0 {
             READ_WRITE
         } else {
@@ -216,7 +273,7 @@ fn map_each(
         };
         map_on(rt, tables, page, Mapping { frame, bits }, frames, jobs);
         do_jobs(rt, jobs, words);
-        agree(rt, tables, words, root);
+        agree(rt, tables, words, walks);
         frame += 1;
     }
     entries_agree(rt, tables, words);
@@ -229,15 +286,16 @@ fn unmap_each(
     frames: &Frames,
     jobs: &mut Jobs,
     words: &mut [u64],
-    root: u32,
+    walks: Walks,
 )
-    requires { HasTaken tables.old frames.now }
+    requires levels { IsLevels walks.levels }
+    requires taken { HasTaken tables.old frames.now }
     ensures { HasTaken tables.new frames.now }
 {
-    for page in PAGES {
+    for page in walks.pages {
         unmap_on(rt, tables, page, frames, jobs);
         do_jobs(rt, jobs, words);
-        agree(rt, tables, words, root);
+        agree(rt, tables, words, walks);
     }
     entries_agree(rt, tables, words);
 }
@@ -249,18 +307,19 @@ fn reclaim_each(
     frames: &mut Frames,
     jobs: &mut Jobs,
     words: &mut [u64],
-    root: u32,
+    walks: Walks,
 )
+    requires levels { IsLevels walks.levels }
     requires taken { HasTaken tables.old frames.old }
 {
     for leaf in [0, 0x8000] {
         reclaim_on(rt, tables, leaf, frames, jobs);
         do_jobs(rt, jobs, words);
-        agree(rt, tables, words, root);
+        agree(rt, tables, words, walks);
         entries_agree(rt, tables, words);
     }
     assert_eq!(rt; tables.table_at(2), Some(TablePlace { level: 0, first: 0 }));
-    assert_eq!(rt; tables.need(0x10, 1), 1);
+    assert_eq!(rt; need_on(rt, tables, 0x10, 1), 1);
     assert_eq!(rt; frames.free_count(), 52);
     tables.give_leaves(frames);
     assert_eq!(rt; tables.table_at(2), None);
@@ -285,9 +344,14 @@ fn words_agree(rt: HostRuntime) -> Result<(), Fail> {
     let mut words = vec![in rt.alloc(); 0u64; 64 * 512]?;
     let mut frames = Frames::new(rt.alloc(), 64)?;
     let mut jobs = Jobs::new(rt.alloc(), 64)?;
-    let mut tables = Tables::new(rt.alloc(), 64, 128)?;
+    let mut tables = Tables::new(rt.alloc(), 64, 128, 3)?;
     let root = open_on(&rt, &mut tables, &mut frames);
-    map_each(&rt, &mut tables, &mut frames, &mut jobs, &mut words, root);
+    let walks = Walks {
+        pages: THREE_LEVELS,
+        levels: 3,
+        root,
+    };
+    map_each(&rt, &mut tables, &mut frames, &mut jobs, &mut words, walks);
     assert_eq!(rt; frames.free_count(), 52);
     assert_eq!(rt;
         tables.table_at(11),
@@ -297,18 +361,53 @@ fn words_agree(rt: HostRuntime) -> Result<(), Fail> {
         })
     );
     next_pages(&rt, &tables);
-    unmap_each(&rt, &mut tables, &frames, &mut jobs, &mut words, root);
+    unmap_each(&rt, &mut tables, &frames, &mut jobs, &mut words, walks);
     assert_eq!(rt; tables.next_page(0), None);
     assert_eq!(rt; tables.left(), 128);
-    reclaim_each(&rt, &mut tables, &mut frames, &mut jobs, &mut words, root);
+    reclaim_each(&rt, &mut tables, &mut frames, &mut jobs, &mut words, walks);
+    Ok(())
+}
+
+/// Maps, unmaps, and gives up a leaf table, with four levels.
+#[test]
+fn four_levels(rt: HostRuntime) -> Result<(), Fail> {
+    let mut words = vec![in rt.alloc(); 0u64; 64 * 512]?;
+    let mut frames = Frames::new(rt.alloc(), 64)?;
+    let mut jobs = Jobs::new(rt.alloc(), 64)?;
+    let mut tables = Tables::new(rt.alloc(), 64, 128, 4)?;
+    let root = open_on(&rt, &mut tables, &mut frames);
+    let walks = Walks {
+        pages: FOUR_LEVELS,
+        levels: 4,
+        root,
+    };
+    map_each(&rt, &mut tables, &mut frames, &mut jobs, &mut words, walks);
+    assert_eq!(rt; frames.free_count(), 46);
+    assert_eq!(rt; tables.table_at(0), Some(TablePlace { level: 3, first: 0 }));
+    assert_eq!(rt;
+        tables.table_at(15),
+        Some(TablePlace {
+            level: 2,
+            first: 0xf_ffff_f800_0000
+        })
+    );
+    assert_eq!(rt; tables.next_page(0x8_0000_0000), Some(0xf_fff8_0000_0000));
+    unmap_each(&rt, &mut tables, &frames, &mut jobs, &mut words, walks);
+    reclaim_on(&rt, &mut tables, 0x4_0000, &frames, &mut jobs);
+    do_jobs(&rt, &mut jobs, &mut words);
+    agree(&rt, &tables, &words, walks);
+    entries_agree(&rt, &tables, &words);
+    assert_eq!(rt; need_on(&rt, &tables, 0x800_0000, 1), 1);
+    tables.give_leaves(&mut frames);
+    assert_eq!(rt; frames.free_count(), 47);
     Ok(())
 }
 
 #[test]
 fn closed_and_copied(rt: HostRuntime) -> Result<(), Fail> {
     let mut frames = Frames::new(rt.alloc(), 64)?;
-    let mut tables = Tables::new(rt.alloc(), 64, 128)?;
-    let mut child = Tables::new(rt.alloc(), 64, 128)?;
+    let mut tables = Tables::new(rt.alloc(), 64, 128, 3)?;
+    let mut child = Tables::new(rt.alloc(), 64, 128, 3)?;
     let root = open_on(&rt, &mut tables, &mut frames);
     tables.copy_to(&mut child, &[7; 64]);
     assert_eq!(rt; child.root(), 7);

@@ -106,7 +106,7 @@ due-from-run (Running hart) = tt
 due-from-run (Exited status output) = tt
 due-from-run (Faulted output) = tt
 
-room-from-run : (image : Image) (small : Bool) → FromRun (if small then record { outcome = NoRoom (needed_frames image); output = [] } else due_of_progress (flat image budget)).outcome
+room-from-run : (image : Image) (small : Bool) → FromRun (if small then record { outcome = NoRoom (needed_frames 3 image); output = [] } else due_of_progress (flat image budget)).outcome
 unfolding FromRun
 room-from-run image true = tt
 room-from-run image false = due-from-run (flat image budget)
@@ -114,7 +114,7 @@ room-from-run image false = due-from-run (flat image budget)
 image-from-run : (image : Result Image ImageFault) → FromRun (due_of_image image).outcome
 unfolding FromRun
 image-from-run (Err fault) = tt
-image-from-run (Ok image) = room-from-run image (nat_lt frame_count (needed_frames image))
+image-from-run (Ok image) = room-from-run image (nat_lt frame_count (needed_frames 3 image))
 
 file-from-run : (file : List ℕ) → FromRun (due_of file).outcome
 unfolding due_of

@@ -71,8 +71,8 @@ frame_count = 1024
 abbrev pub due_of_image : Result Image ImageFault → Due
 due_of_image (Err fault) = record { outcome = BadImage fault; output = [] }
 due_of_image (Ok image) =
-    if nat_lt frame_count (needed_frames image)
-    then record { outcome = NoRoom (needed_frames image); output = [] }
+    if nat_lt frame_count (needed_frames 3 image)
+    then record { outcome = NoRoom (needed_frames 3 image); output = [] }
     else due_of_progress (flat image budget)
 
 unfoldable pub due_of : List ℕ → Due

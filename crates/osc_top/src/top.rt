@@ -22,8 +22,10 @@ use std::marker::Model;
 /// The most instructions that are run.
 const BUDGET: u32 = 1_000_000;
 
-/// The frames of the machine.
+/// The frames of the machine, and the levels of its page tables.
 const FRAMES: u64 = 1024;
+
+const LEVELS: u8 = 3;
 
 /// What is due: how the call ends, the guest's output, and the line of that end.
 #[derive(Drop)]
@@ -79,7 +81,7 @@ impl Decision {
 fn run_image(alloc: Global, image: &Image) -> Result<Decision, AllocError>
     ensures { IfOk result (λ d. Yields d (due_of_image (Ok image.now))) }
 {
-    let needed = image.needed_frames();
+    let needed = image.needed_frames(LEVELS);
     if needed > FRAMES {
         let line = room_line(alloc, needed)?;
         return Ok(Decision::refused(alloc, Outcome::NoRoom { needed }, line));

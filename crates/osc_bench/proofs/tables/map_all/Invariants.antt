@@ -5,8 +5,9 @@ use Rattle.osc_bench.proofs.tables.map_all.Given as goal
 
 abbrev pub invariant-loop-page : goal.invariant-loop-page
 invariant-loop-page l = record {
-  opened : IsOpen 2 l.tables;
+  levels : l.tables.top ≡ 2;
+  opened : IsOpen l.tables;
   taken : HasTaken l.tables l.frames;
-  room : l.jobs.room ≡ 5;
+  room : l.jobs.room ≡ 7;
   few : l.sum ≤ l.page;
 }

@@ -5,8 +5,9 @@ use Rattle.osc_bench.proofs.tables.unmap_all.Given as goal
 
 abbrev pub invariant-loop-number : goal.invariant-loop-number
 invariant-loop-number l = record {
-  opened : IsOpen 2 l.tables;
+  levels : l.tables.top ≡ 2;
+  opened : IsOpen l.tables;
   taken : HasTaken l.tables l.frames;
-  room : l.jobs.room ≡ 5;
+  room : l.jobs.room ≡ 7;
   few : l.sum ≤ l.number;
 }

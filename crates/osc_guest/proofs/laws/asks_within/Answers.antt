@@ -1,5 +1,5 @@
 -- The laws, proved of the definitions.
-use Rattle.osc_guest.proofs.Within.{asks_in, range_kept, begins_in}
+use Rattle.osc_guest.proofs.Ranges.{asks_in, range_kept, begins_in}
 use Rattle.osc_guest.proofs.laws.asks_within.Goals as goal
 
 pub returns-clause-asks : goal.returns-clause-asks

@@ -7,4 +7,4 @@ use Rattle.osc_machine.proofs.worked.lines_printed.Goals as goal
 
 pub returns : goal.returns
 unfolding digits report_line summary_line
-returns c = record { exit = refl; malloc = refl; dead = refl }
+returns c = record { exit = refl; deeper = refl; malloc = refl; dead = refl }

@@ -1,12 +1,13 @@
 -- A table lies within the range.
-use Rattle.std.proofs.Common.{sym, ◌∙◌}
+use Rattle.std.proofs.Common.{suc, sym, ◌∙◌, arith}
 use Rattle.osc_tables.proofs.KeptFacts.{lies}
 use Rattle.osc_tables.proofs.kept.place_in.Goals as goal
 
 pub place_of-requires-clause-level : goal.place_of-requires-clause-level
 place_of-requires-clause-level c =
-    (lies 3 c.args.tables.now c.args.frame c.in_ok-piece.piece c.requires (sym c.piece_of.ensures ∙ c.in_ok-piece.was)).0
+    let within = (lies (suc c.args.top) c.args.tables.now c.args.frame c.in_ok-piece.piece c.requires.tables (sym c.piece_of.ensures ∙ c.in_ok-piece.was)).0 in
+    omega arith
 
 pub place_of-requires-clause-range : goal.place_of-requires-clause-range
 place_of-requires-clause-range c =
-    (lies 3 c.args.tables.now c.args.frame c.in_ok-piece.piece c.requires (sym c.piece_of.ensures ∙ c.in_ok-piece.was)).1
+    (lies (suc c.args.top) c.args.tables.now c.args.frame c.in_ok-piece.piece c.requires.tables (sym c.piece_of.ensures ∙ c.in_ok-piece.was)).1

@@ -1,12 +1,12 @@
 -- The levels below are still to be counted.
 use Rattle.std.proofs.Common.{◌≡◌, ◌≤◌, ◌+◌, ◌*◌}
-use Rattle.osc_paging.specs.KeptTables.{need}
+use Rattle.osc_paging.specs.KeptTables.{need_below}
 use Rattle.osc_tables.proofs.needs.need_below.Given as goal
 
 abbrev pub invariant-loop-level : goal.invariant-loop-level
 invariant-loop-level l = record {
-  left : l.total + need l.tables l.level l.first l.count ≡ need l.tables l.top l.first l.count;
-  few : l.total + 134217728 * l.level ≤ 134217728 * l.top;
+  left : l.total + need_below l.tables l.level l.first l.count ≡ need_below l.tables l.top l.first l.count;
+  few : l.total + 68719476736 * l.level ≤ 68719476736 * l.top;
   level : l.level ≤ l.top;
 }
 

@@ -5,7 +5,7 @@ use Rattle.osc_tables.proofs.tests.map_each.Given as goal
 
 abbrev pub invariant-loop-page : goal.invariant-loop-page
 invariant-loop-page g l = record {
-  opened : IsOpen 2 l.tables;
+  opened : IsOpen l.tables;
   taken : HasTaken l.tables l.frames;
   frame : l.frame ≤ 40 + l.page-index;
 }

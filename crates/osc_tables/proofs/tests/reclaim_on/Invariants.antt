@@ -4,4 +4,4 @@ use Rattle.osc_paging.specs.KeptTables.{mapping_of}
 use Rattle.osc_tables.proofs.tests.reclaim_on.Given as goal
 
 abbrev pub invariant-loop-i : goal.invariant-loop-i
-invariant-loop-i g l = (k : ℕ) → k < l.i → mapping_of 3 l.tables (l.leaf * 512 + k) ≡ None
+invariant-loop-i g l = (k : ℕ) → k < l.i → mapping_of l.tables (l.leaf * 512 + k) ≡ None

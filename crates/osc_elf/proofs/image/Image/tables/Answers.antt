@@ -1,5 +1,6 @@
 use Rattle.std.proofs.Common.{arith, ◌∙◌, ap, sym}
-use Rattle.osc_image.specs.Frames.{different, tables_of}
+use Rattle.osc_image.specs.Frames.{different}
+use Rattle.osc_elf.specs.TableNumbers.{tables_of}
 use Rattle.osc_elf.proofs.Counting.{tables-start, tables-new, tables-same, tables-unmapped, table-later, pages-limit}
 use Rattle.osc_elf.proofs.image.Image.tables.Goals as goal
 use Rattle.osc_elf.proofs.image.Image.tables.Goals.{then-is_mapped+then-next-page, else-is_mapped, else-is_mapped-via-then-is_mapped+else-next-page, else-is_mapped-via-else-is_mapped}

@@ -1,6 +1,6 @@
 use Rattle.std.proofs.Common.{◌+◌, ◌/◌, ◌≤◌}
 use Rattle.osc_image.specs.Image.{pages_below}
-use Rattle.osc_image.specs.Frames.{tables_of}
+use Rattle.osc_elf.specs.TableNumbers.{tables_of}
 use Rattle.osc_elf.proofs.Counting.{Counted}
 use Rattle.osc_elf.proofs.image.Image.tables.Given as goal
 

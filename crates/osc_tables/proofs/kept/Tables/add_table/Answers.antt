@@ -7,8 +7,10 @@ pub invariant_of-self : goal.invariant_of-self
 invariant_of-self c =
     let fresh = rw (← c.self.view_is) at c.requires.fresh in
     let absent = rw (← c.self.view_is) at c.requires.absent in
+    let level = rw (← c.self.view_is) at c.requires.level in
+    let range = rw (← c.self.view_is) at c.requires.range in
     rw c.put_table.ensures.items (
-      kept-with_table c.self.inside.pages.items c.self.inside.tables.items c.self.inside.aside.items c.self.inside.room c.self.inside.count c.args.new c.self.invariant.0 fresh c.requires.level c.requires.range absent,
+      kept-with_table c.self.inside.top c.self.inside.pages.items c.self.inside.tables.items c.self.inside.aside.items c.self.inside.room c.self.inside.count c.args.new c.self.invariant.0 fresh level range absent,
       c.self.invariant.1,
       omega (arith, c.self.invariant.2, c.put_table.ensures.capacity),
       c.self.invariant.3,

@@ -11,7 +11,8 @@ pub link-requires-clause-range : goal.link-requires-clause-range
 link-requires-clause-range c =
     let level : suc (c.loop-level.level - 1) ≡ c.loop-level.level = omega arith in
     let start = piece-start c.loop-level.level c.args.number in
-    rw (level, c.piece_over-above.ensures.piece) (omega arith)
+    let top : c.loop-level.self.top ≡ c.args.self.now.top = ap (λ (t : KeptTables). t.top) c.loop-level.invariant.rest in
+    rw (level, c.piece_over-above.ensures.piece, top) (omega (arith, c.requires.range))
 
 pub loop-level-preserved : goal.loop-level-preserved
 loop-level-preserved c =

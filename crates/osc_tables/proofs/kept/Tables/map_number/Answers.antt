@@ -1,5 +1,5 @@
 -- A page more, in its place.
-use Rattle.std.proofs.Common.{◌≡◌, ◌∙◌, ap, None, length, arith}
+use Rattle.std.proofs.Common.{◌≡◌, ◌<◌, ◌^◌, ◌∙◌, suc, ap, None, length, arith}
 use Rattle.osc_paging.specs.KeptTables.{KeptTables, mapping_at}
 use Rattle.osc_tables.proofs.KeptChanges.{kept-with_page}
 use Rattle.osc_tables.proofs.kept.Tables.map_number.Goals as goal
@@ -18,8 +18,10 @@ invariant_of-self c =
     let long : length c.self.inside.pages.items ≡ length c.args.self.now.pages = ap length pages in
     let room : c.self.inside.room ≡ c.args.self.now.room = ap (λ (t : KeptTables). t.room) same in
     let none : mapping_at c.self.inside.pages.items c.args.number ≡ None = rw pages c.requires.unmapped in
+    let top : c.self.inside.top ≡ c.args.self.now.top = ap (λ (t : KeptTables). t.top) same in
+    let range : c.args.number < 512 ^ suc c.self.inside.top = rw top c.requires.range in
     rw c.put_page.ensures.items (
-      kept-with_page c.self.inside.pages.items c.self.inside.tables.items c.self.inside.aside.items c.self.inside.room c.self.inside.count c.args.number c.args.mapping c.self.invariant.0 (omega (arith, c.requires.left)) c.requires.range none,
+      kept-with_page c.self.inside.top c.self.inside.pages.items c.self.inside.tables.items c.self.inside.aside.items c.self.inside.room c.self.inside.count c.args.number c.args.mapping c.self.invariant.0 (omega (arith, c.requires.left)) range none,
       omega (arith, c.self.invariant.1, c.put_page.ensures.capacity),
       c.self.invariant.2,
       c.self.invariant.3,

@@ -1,0 +1,2 @@
+pub mod Divided
+pub use Rattle.osc_isa.specs.Multiply
