@@ -40,7 +40,7 @@ use Rattle.osc_world.specs.Offers.{Goes, Unfit, Conditional, then_try, provided,
 use Rattle.osc_world.specs.World.{WorldTurn, WorldStep, WorldOffer, WorldPut, Memory, Object, Live, Dead, Page, killed, Makes, Kills, Replaces}
 use Rattle.osc_world.specs.Operations.{operated, operated_imm, multiplied, is_taken_for, amo_value, is_amo_operand}
 use Rattle.osc_world.specs.Accesses.{aimed, memory_page, object_bytes, page_bytes, area_bytes, bytes_at, value_at, is_shared_area, is_storable, puts, row_at}
-use Rattle.osc_world.specs.Instructions.{register_of, objects_of, sets_if, goes_to, passes, jumps_by, branches, loaded_value, loads, after_put, stores, widened_value, amos, reserves, holds_reservation, conditional_step, succeeds, conditional}
+use Rattle.osc_world.specs.Instructions.{register_of, objects_of, sets_if, goes_to, passes, jumps_by, branches, loaded_value, load_step, after_put, store_step, widened_value, amo_step, reserve_step, holds_reservation, conditional_step, succeeds, conditional}
 use Rattle.osc_world.specs.Calls.{zeros, resized, without_object, objects_after, is_live_start, free_deed, with_number, grants_object, malloc_offer, realloc_offer, write_deed, only_deed, serves, calls}
 use Rattle.osc_world.specs.Events.{only_step, offered}
 use Rattle.osc_world.specs.Knows.{is_granted, is_known, is_known_byte, is_plain_byte, knows_object, knows_page, knows_memory, objects_by, knows_left, knows_thread, Knows}
@@ -232,7 +232,7 @@ branches-known turn target None = tt
 branches-known turn target (Some true) = goes_to-known turn target (passes turn) (tt, refl)
 branches-known turn target (Some false) = (tt, refl)
 
-loads-known : (turn : WorldTurn) (kind : LoadKind) (rd : ℕ) (address : Value) → InTurn turn → Knows turn.state → KnownStep turn (loads turn kind rd address)
+loads-known : (turn : WorldTurn) (kind : LoadKind) (rd : ℕ) (address : Value) → InTurn turn → Knows turn.state → KnownStep turn (load_step turn kind rd address)
 unfolding KnownStep KnownPut KnownRead
 loads-known turn kind rd address i k = by (aimed turn access.Load (load_width kind) address true)
   where
@@ -244,7 +244,7 @@ loads-known turn kind rd address i k = by (aimed turn access.Load (load_width ki
     by (Ok at) = read (value_at turn at (load_width kind)) (value_at-known turn at (load_width kind) i k)
     by (Err why) = tt
 
-reserves-known : (turn : WorldTurn) (width : Width) (rd : ℕ) (address : Value) → InTurn turn → Knows turn.state → KnownStep turn (reserves turn width rd address)
+reserves-known : (turn : WorldTurn) (width : Width) (rd : ℕ) (address : Value) → InTurn turn → Knows turn.state → KnownStep turn (reserve_step turn width rd address)
 unfolding KnownStep KnownPut KnownRead
 reserves-known turn width rd address i k = by (aimed turn access.Load (width_of width) address true)
   where
@@ -264,7 +264,7 @@ after_put-known turn at width value step e f = by (puts at width value) (puts-kn
     by (Ok put) h = (h, f)
     by (Err why) h = tt
 
-stores-known : (turn : WorldTurn) (width : ℕ) (address value : Value) → is_known (count turn) value ≡ true → KnownStep turn (stores turn width address value)
+stores-known : (turn : WorldTurn) (width : ℕ) (address value : Value) → is_known (count turn) value ≡ true → KnownStep turn (store_step turn width address value)
 unfolding KnownStep
 stores-known turn width address value e = by (aimed turn access.Store width address (is_storable width value))
   where
@@ -272,7 +272,7 @@ stores-known turn width address value e = by (aimed turn access.Store width addr
     by (Ok at) = after_put-known turn at width value (passes turn) e refl
     by (Err why) = tt
 
-amos-known : (turn : WorldTurn) (op : AmoOp) (width : Width) (rd : ℕ) (address operand : Value) → InTurn turn → Knows turn.state → is_known (count turn) operand ≡ true → KnownStep turn (amos turn op width rd address operand)
+amos-known : (turn : WorldTurn) (op : AmoOp) (width : Width) (rd : ℕ) (address operand : Value) → InTurn turn → Knows turn.state → is_known (count turn) operand ≡ true → KnownStep turn (amo_step turn op width rd address operand)
 unfolding KnownStep KnownRead
 amos-known turn op width rd address operand i k e = by (aimed turn access.Store (width_of width) address (is_amo_operand op width operand))
   where
