@@ -5,7 +5,7 @@ set -eu
 cd "$(dirname "$0")"
 objects=$(mktemp -d)
 trap 'rm -rf "$objects"' EXIT
-target=(-march=rv64i -mabi=lp64)
+target=(-march=rv64im -mabi=lp64)
 
 assemble() {
     riscv64-unknown-elf-as "${target[@]}" -mno-arch-attr -o "$objects/$1.o" "$1.s"

@@ -1,16 +1,16 @@
 -- What a deed leaves of the counts of a world.
-use Rattle.std.proofs.Common.{◌≡◌, ℕ, ◌≤◌, ◌<◌, ◌+◌, ◌==◌, Bool, true, false, cond, List, [], ◌∷◌, ◌++◌, length, length-append, length-set, Option, Some, None, option_map, refl, arith, slice_get, zero, suc, map, sym, ap, subst}
+use Rattle.std.proofs.Common.{◌≡◌, ℕ, ◌≤◌, ◌==◌, cond, List, [], ◌∷◌, ◌++◌, length, length-append, length-set, Some, option_map, refl, arith, slice_get, zero, suc}
 use Rattle.std.proofs.lemmas.List.{length-map}
 use Rattle.std.proofs.lemmas.Bool.Decides.{nat_tests}
 use Rattle.std.specs.Prelude.{slice_set}
 use Rattle.osc_world.specs.declared.Value.{Value}
 use Rattle.osc_world.specs.declared.Byte.{Byte}
-use Rattle.osc_world.specs.States.{Hart, Thread, Process, State, changed_at}
-use Rattle.osc_world.specs.Deeds.{Deed, state_after}
-use Rattle.osc_world.specs.World.{World, WorldTurn, WorldDeed, Memory, Object}
+use Rattle.osc_world.specs.States.{Hart, Thread, Process}
+use Rattle.osc_world.specs.Deeds.{state_after}
+use Rattle.osc_world.specs.World.{WorldTurn, WorldDeed, Memory, Object}
 use Rattle.osc_world.specs.Accesses.{put_in_world}
 use Rattle.osc_world.specs.Calls.{world_kind}
-use Rattle.osc_world.proofs.Lists.{length-changed_at, set-other, set-same}
+use Rattle.osc_world.proofs.Lists.{length-changed_at}
 
 pub harts-after : (turn : WorldTurn) (deed : WorldDeed) → length (state_after world_kind turn deed).harts ≡ length turn.state.harts
 unfolding state_after put_in_world

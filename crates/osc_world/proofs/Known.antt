@@ -1,22 +1,19 @@
 -- Each pointer names a granted object: what a deed leaves.
-use Rattle.std.proofs.Common.{◌≡◌, ◌≢◌, ℕ, ◌≤◌, ◌<◌, ◌+◌, ◌-◌, ◌==◌, Bool, true, false, cond, ◌&&◌, List, [], ◌∷◌, ◌++◌, length, length-append, length-set, Option, Some, None, option_map, refl, arith, slice_get, zero, suc, map, sym, ap, subst, ◌∙◌, take, drop, replicate}
+use Rattle.std.proofs.Common.{◌≡◌, ℕ, ◌≤◌, ◌+◌, ◌==◌, Bool, true, false, cond, ◌&&◌, List, [], ◌∷◌, ◌++◌, length, Option, Some, None, refl, arith, slice_get, zero, suc, map, subst, take, drop, replicate}
 use Rattle.std.proofs.lemmas.Bool.Decides.{nat_tests}
-use Rattle.std.specs.Prelude.{slice_set, nat_lt, nat_le, unwrap_or}
-use Rattle.std.specs.List.{list_all, list_any, range_with_len}
+use Rattle.std.specs.Prelude.{slice_set}
+use Rattle.std.specs.List.{list_all}
 use Rattle.osc_world.specs.declared.Value.{Value}
 use Rattle.osc_world.specs.declared.Value.TheVariants.{Num, Ptr}
 use Rattle.osc_world.specs.declared.Byte.{Byte}
 use Rattle.osc_world.specs.declared.Byte.TheVariants.{Number, Part}
 use Rattle.osc_world.specs.declared.Area.{Area}
 use Rattle.osc_world.specs.declared.Area.TheVariants as area
-use Rattle.osc_world.specs.declared.Place.{Place}
-use Rattle.osc_world.specs.declared.Reservation.{Reservation}
-use Rattle.osc_world.specs.States.{Hart, Thread, Process, State, changed_at, with_value, value_in, idle}
-use Rattle.osc_world.specs.Deeds.{Deed, goes_on, stopped, is_number, runs}
-use Rattle.osc_world.specs.World.{World, WorldTurn, WorldDeed, Memory, Object, Live, Dead, Page, killed}
-use Rattle.osc_world.specs.Accesses.{put_in_world, overlaid, object_overlaid, page_overlaid, memory_overlaid, shared_overlaid, disturbed, is_reserved_word, is_shared_area}
-use Rattle.osc_world.specs.Knows.{is_granted, is_known, is_known_byte, is_plain_byte, knows_object, knows_page, knows_memory, objects_in, objects_by, knows_hart, knows_left, knows_thread, is_spawner, has_spawner, is_spawned, Knows}
-use Rattle.osc_world.proofs.Lists.{length-changed_at, length-overlaid, slice_get-changed_at}
+use Rattle.osc_world.specs.States.{changed_at}
+use Rattle.osc_world.specs.World.{Memory, Object, Live, Dead, Page}
+use Rattle.osc_world.specs.Accesses.{overlaid, object_overlaid, page_overlaid, memory_overlaid}
+use Rattle.osc_world.specs.Knows.{is_granted, is_known, is_known_byte, knows_object, knows_page, knows_memory, knows_left}
+use Rattle.osc_world.proofs.Lists.{length-changed_at}
 
 -- ---- lists
 
@@ -88,17 +85,17 @@ pub known-more : (n m : ℕ) (v : Value) → n ≤ m → is_known n v ≡ true �
 known-more n m (Num a) l e = refl
 known-more n m (Ptr o k) l e = granted-more n m o k l e
 
-byte-more : (n m : ℕ) (b : Byte) → n ≤ m → is_known_byte n b ≡ true → is_known_byte m b ≡ true
+pub byte-more : (n m : ℕ) (b : Byte) → n ≤ m → is_known_byte n b ≡ true → is_known_byte m b ≡ true
 byte-more n m (Number a) l e = refl
 byte-more n m (Part o k i) l e = granted-more n m o k l e
 
-bytes-more : (n m : ℕ) (bytes : List Byte) → n ≤ m → list_all (is_known_byte n) bytes ≡ true → list_all (is_known_byte m) bytes ≡ true
+pub bytes-more : (n m : ℕ) (bytes : List Byte) → n ≤ m → list_all (is_known_byte n) bytes ≡ true → list_all (is_known_byte m) bytes ≡ true
 bytes-more n m bytes l = all-more (is_known_byte n) (is_known_byte m) bytes (λ b. byte-more n m b l)
 
-page-more : (n m : ℕ) (page : Page) → n ≤ m → knows_page n page ≡ true → knows_page m page ≡ true
+pub page-more : (n m : ℕ) (page : Page) → n ≤ m → knows_page n page ≡ true → knows_page m page ≡ true
 page-more n m page l = bytes-more n m page.bytes l
 
-object-more : (n m : ℕ) (object : Object) → n ≤ m → knows_object n object ≡ true → knows_object m object ≡ true
+pub object-more : (n m : ℕ) (object : Object) → n ≤ m → knows_object n object ≡ true → knows_object m object ≡ true
 object-more n m (Live bytes) l e = bytes-more n m bytes l e
 object-more n m (Dead size) l e = refl
 

@@ -1,24 +1,24 @@
 -- Each pointer names a granted object after a deed whose values do.
-use Rattle.std.proofs.Common.{◌≡◌, ◌≢◌, ℕ, ◌≤◌, ◌<◌, ◌+◌, ◌-◌, ◌==◌, ◌%◌, Bool, true, false, cond, ◌&&◌, List, [], ◌∷◌, ◌++◌, length, Option, Some, None, option_map, refl, arith, slice_get, zero, suc, map, sym, ap, subst, ◌∙◌, replicate}
+use Rattle.std.proofs.Common.{◌≡◌, ℕ, ◌≤◌, ◌+◌, ◌-◌, ◌==◌, ◌%◌, Bool, true, false, cond, List, [], ◌∷◌, ◌++◌, length, Option, Some, None, option_map, refl, arith, slice_get, zero, suc, sym, ap, subst, ◌∙◌, replicate}
 use Rattle.std.proofs.lemmas.Bool.Decides.{nat_tests}
 use Rattle.std.specs.Prelude.{slice_set}
 use Rattle.std.specs.List.{list_all, range_with_len}
 use Rattle.osc_word.specs.Environment.{answer_register}
 use Rattle.osc_isa.specs.Integer.{next}
 use Rattle.osc_world.specs.declared.Value.{Value}
-use Rattle.osc_world.specs.declared.Value.TheVariants.{Num, Ptr}
+use Rattle.osc_world.specs.declared.Value.TheVariants.{Num}
 use Rattle.osc_world.specs.declared.Byte.{Byte}
-use Rattle.osc_world.specs.declared.Byte.TheVariants.{Number, Part}
+use Rattle.osc_world.specs.declared.Byte.TheVariants.{Number}
 use Rattle.osc_world.specs.declared.Area.{Area}
 use Rattle.osc_world.specs.declared.Area.TheVariants as area
 use Rattle.osc_world.specs.declared.Place.{Place}
 use Rattle.osc_world.specs.declared.Reservation.{Reservation}
-use Rattle.osc_world.specs.States.{Hart, Thread, Process, State, changed_at, with_value, idle}
-use Rattle.osc_world.specs.Deeds.{Deed, Steps, Heaps, Writes, Shares, Forks, Spawns, Exits, Leaves, Step, Put, goes_on, begins_on, with_process, with_memory, with_child, with_thread, child_hart, thread_hart, stopped, runs, is_number, left_by, state_after, status_after, put_if, with_shared, with_answer, shared_next}
-use Rattle.osc_world.specs.World.{World, WorldTurn, WorldDeed, WorldPut, Memory, Object, ObjectDeed}
+use Rattle.osc_world.specs.States.{Hart, Thread, Process, changed_at, with_value, idle}
+use Rattle.osc_world.specs.Deeds.{Steps, Heaps, Writes, Shares, Forks, Spawns, Exits, Leaves, goes_on, begins_on, with_process, with_memory, with_child, with_thread, child_hart, thread_hart, stopped, runs, left_by, state_after, status_after, put_if, with_shared, with_answer, shared_next}
+use Rattle.osc_world.specs.World.{World, WorldTurn, WorldDeed, WorldPut, Memory}
 use Rattle.osc_world.specs.Accesses.{put_in_world, shared_overlaid, memory_overlaid, disturbed, is_reserved_word, is_shared_area, overlaid}
 use Rattle.osc_world.specs.Calls.{world_kind, objects_after}
-use Rattle.osc_world.specs.Knows.{is_known, is_known_byte, is_plain_byte, knows_memory, objects_in, objects_by, knows_hart, knows_left, knows_thread, is_spawner, has_spawner, is_spawned, Knows}
+use Rattle.osc_world.specs.Knows.{is_known, is_known_byte, is_plain_byte, knows_memory, objects_in, objects_by, knows_hart, knows_thread, is_spawner, has_spawner, is_spawned, Knows}
 use Rattle.osc_world.proofs.Lists.{length-changed_at, slice_get-changed_at}
 use Rattle.osc_world.proofs.Growth.{set-get, append-get}
 use Rattle.osc_world.proofs.Known.{and-both, and-left, and-right, all-at, all-set, all-map, all-more, all-append, all-replicate, all-changed_at, all-overlaid, known-more, left-more, overlaid-memory}
@@ -77,10 +77,10 @@ begins-knows world number hart k h s = record {
   spawned = all-set (is_spawned world.threads) world.harts number hart k.spawned s;
 }
 
-own-count : (turn : WorldTurn) → InTurn turn → objects_by turn.state.processes (Some turn.pid) ≡ length turn.process.memory.objects
+pub own-count : (turn : WorldTurn) → InTurn turn → objects_by turn.state.processes (Some turn.pid) ≡ length turn.process.memory.objects
 own-count turn i = rw i.process refl
 
-regs-known : (turn : WorldTurn) → InTurn turn → Knows turn.state → list_all (is_known (length turn.process.memory.objects)) turn.hart.regs ≡ true
+pub regs-known : (turn : WorldTurn) → InTurn turn → Knows turn.state → list_all (is_known (length turn.process.memory.objects)) turn.hart.regs ≡ true
 regs-known turn i k =
     let all : list_all (is_known (objects_by turn.state.processes turn.hart.process)) turn.hart.regs ≡ true = all-at (knows_hart turn.state.processes) turn.state.harts turn.number turn.hart k.harts i.hart in
     let same : objects_by turn.state.processes turn.hart.process ≡ length turn.process.memory.objects = ap (objects_by turn.state.processes) i.runs ∙ own-count turn i in
@@ -113,7 +113,7 @@ process-knows turn process i k m l =
       spawned = k.spawned;
     }
 
-own-memory : (turn : WorldTurn) → InTurn turn → Knows turn.state → knows_memory turn.process.memory ≡ true
+pub own-memory : (turn : WorldTurn) → InTurn turn → Knows turn.state → knows_memory turn.process.memory ≡ true
 own-memory turn i k = all-at (λ (x : Process Memory). knows_memory x.memory) turn.state.processes turn.pid turn.process k.memories i.process
 
 -- ---- deeds

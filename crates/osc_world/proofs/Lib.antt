@@ -9,3 +9,5 @@ pub mod Output
 pub mod Growth
 pub mod Known
 pub mod KnownDeeds
+pub mod KnownOffers
+pub mod KnownRuns

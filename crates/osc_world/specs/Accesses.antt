@@ -26,6 +26,7 @@ use Rattle.osc_world.specs.World.{World, WorldTurn, WorldPut, Memory, Object, Li
 abbrev pub in_area : Area → ℕ → Place
 in_area area offset = record { area = area; offset = offset }
 
+-- the page of a number
 abbrev pub memory_page : List Page → ℕ → Option Page
 memory_page pages number = find (λ (page : Page). page.number == number) pages
 
@@ -55,16 +56,16 @@ allowed_place access None = Err Outside
 allowed_place access (Some found) = provided (lets access found.bits) Outside (Ok found.place)
 
 -- where an access of this width by a pointer begins: the object lives, and has all the bytes
-abbrev pub object_place : ℕ → ℕ → ℕ → Option Object → Result Place ObjectWhy
-object_place object offset width None = Err Outside
-object_place object offset width (Some (Dead size)) = Err DeadObject
-object_place object offset width (Some (Live bytes)) =
+abbrev pub place_in_object : ℕ → ℕ → ℕ → Option Object → Result Place ObjectWhy
+place_in_object object offset width None = Err Outside
+place_in_object object offset width (Some (Dead size)) = Err DeadObject
+place_in_object object offset width (Some (Live bytes)) =
     provided (nat_le (offset + width) (length bytes)) Outside (Ok (in_area (area.Object object) offset))
 
 -- where an aligned access of this width begins
 unfoldable pub reached_place : Process Memory → Access → ℕ → Value → Result Place ObjectWhy
 reached_place process access width (Num address) = allowed_place access (numbered_at process address)
-reached_place process access width (Ptr object offset) = object_place object offset width (slice_get process.memory.objects object)
+reached_place process access width (Ptr object offset) = place_in_object object offset width (slice_get process.memory.objects object)
 
 -- whether the address, or the offset of a pointer, is divisible by the width
 abbrev pub is_aligned : ℕ → Value → Bool

@@ -1,6 +1,6 @@
 -- What an event does to a state of the object run or of the plain run, once it is decided which deed it
--- is. P says where a store begins, and H what a call of the heap does. RISC-V Unprivileged manual, "RV32I Base Integer Instruction Set": x0 is
--- never changed; the calls are this project's own.
+-- is. P says where a store begins, and H what a call of the heap does. RISC-V Unprivileged manual, "RV32I
+-- Base Integer Instruction Set": x0 is never changed; the calls are this project's own.
 use Rattle.std.specs.Prelude.{ℕ, ◌+◌, ◌-◌, ◌*◌, ◌%◌, ◌==◌, Bool, false, if◌then◌else◌, List, [], ◌∷◌, ◌++◌, length, map, replicate, slice_set, Option, Some, None}
 use Rattle.std.specs.List.{list_any, range_with_len}
 use Rattle.osc_word.specs.AddressMap.{first_shared_page}
@@ -24,6 +24,7 @@ pub record Step (V B P : Type 0) : Type 0 where
   pub pc : ℕ
   pub reservation : Option Reservation
 
+-- what an event does
 pub data Deed (V B P H : Type 0) : Type 0 where
   Steps : Step V B P → Deed V B P H
   Heaps : H → V → Deed V B P H  -- malloc, free or realloc, with its answer
@@ -132,6 +133,7 @@ done_with turn value =
 
 -- ---- beginnings
 
+-- a hart runs on as this one
 abbrev pub begins_on : {V B M : Type 0} → ℕ → Hart V → State V B M → State V B M
 begins_on number hart state = record state { harts = slice_set state.harts number hart }
 

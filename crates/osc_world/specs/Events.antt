@@ -21,7 +21,7 @@ use Rattle.osc_world.specs.Offers.{Meaning, Goes, Errs, Unfit, Only, chosen, the
 use Rattle.osc_world.specs.World.{World, WorldTurn, WorldStep, WorldDeed, WorldOffer}
 use Rattle.osc_world.specs.Operations.{operated, operated_imm, multiplied, is_taken_for}
 use Rattle.osc_world.specs.Accesses.{aimed, value_at}
-use Rattle.osc_world.specs.Instructions.{register_of, objects_of, sets_if, passes, jumps, jumps_by, branches, loads, stores, amos, reserves, conditional}
+use Rattle.osc_world.specs.Instructions.{register_of, objects_of, sets_if, passes, jumps, jumps_by, branches, load_step, store_step, amo_step, reserve_step, conditional}
 use Rattle.osc_world.specs.Calls.{calls, world_kind}
 
 -- a step that leaves nothing to choose
@@ -39,9 +39,9 @@ offered turn (instr.Branch kind rs1 rs2 half) =
     only_step (branches turn (wrapped (turn.hart.pc + extended 13 (half * 2)))
     (is_taken_for (objects_of turn) kind (register_of turn rs1) (register_of turn rs2)))
 offered turn (instr.Load kind rd rs1 imm) =
-    only_step (loads turn kind rd (advanced (register_of turn rs1) (extended 12 imm)))
+    only_step (load_step turn kind rd (advanced (register_of turn rs1) (extended 12 imm)))
 offered turn (instr.Store kind rs1 rs2 imm) =
-    only_step (stores turn (store_width kind) (advanced (register_of turn rs1) (extended 12 imm)) (register_of turn rs2))
+    only_step (store_step turn (store_width kind) (advanced (register_of turn rs1) (extended 12 imm)) (register_of turn rs2))
 offered turn (instr.Imm op rd rs1 imm) =
     only_step (sets_if turn rd (operated_imm (objects_of turn) op (register_of turn rs1) (extended 12 imm)))
 offered turn (instr.Shift op rd rs1 amount) =
@@ -57,8 +57,8 @@ offered turn (instr.FenceI bits) = only_step (Ok (passes turn))
 offered turn instr.Ecall = calls turn
 offered turn instr.Ebreak = Err Trap
 offered turn (instr.Amo op width rd rs1 rs2 aq rl) =
-    only_step (amos turn op width rd (register_of turn rs1) (register_of turn rs2))
-offered turn (instr.Lr width rd rs1 aq rl) = only_step (reserves turn width rd (register_of turn rs1))
+    only_step (amo_step turn op width rd (register_of turn rs1) (register_of turn rs2))
+offered turn (instr.Lr width rd rs1 aq rl) = only_step (reserve_step turn width rd (register_of turn rs1))
 offered turn (instr.Sc width rd rs1 rs2 aq rl) =
     conditional turn width rd (register_of turn rs1) (register_of turn rs2)
 

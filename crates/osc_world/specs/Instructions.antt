@@ -67,8 +67,8 @@ loaded_value kind (Num number) = Num (loaded kind number)
 loaded_value kind (Ptr object offset) = Ptr object offset
 
 -- a load
-abbrev pub loads : WorldTurn → LoadKind → ℕ → Value → Result WorldStep ObjectWhy
-loads turn kind rd address =
+abbrev pub load_step : WorldTurn → LoadKind → ℕ → Value → Result WorldStep ObjectWhy
+load_step turn kind rd address =
     then_try (aimed turn access.Load (load_width kind) address true) (λ at.
     then_try (value_at turn at (load_width kind)) (λ value.
     Ok (sets turn rd (loaded_value kind value))))
@@ -78,8 +78,8 @@ abbrev pub after_put : Place → ℕ → Value → WorldStep → Result WorldSte
 after_put at width value step = then_try (puts at width value) (λ put. Ok (record step { put = Some put }))
 
 -- a store
-abbrev pub stores : WorldTurn → ℕ → Value → Value → Result WorldStep ObjectWhy
-stores turn width address value =
+abbrev pub store_step : WorldTurn → ℕ → Value → Value → Result WorldStep ObjectWhy
+store_step turn width address value =
     then_try (aimed turn access.Store width address (is_storable width value)) (λ at.
     after_put at width value (passes turn))
 
@@ -91,16 +91,16 @@ widened_value width (Num number) = Num (widened width number)
 widened_value width (Ptr object offset) = Ptr object offset
 
 -- an atomic memory operation: a load, then a store of what it makes of both
-abbrev pub amos : WorldTurn → AmoOp → Width → ℕ → Value → Value → Result WorldStep ObjectWhy
-amos turn op width rd address operand =
+abbrev pub amo_step : WorldTurn → AmoOp → Width → ℕ → Value → Value → Result WorldStep ObjectWhy
+amo_step turn op width rd address operand =
     then_try (aimed turn access.Store (width_of width) address (is_amo_operand op width operand)) (λ at.
     then_try (value_at turn at (width_of width)) (λ old.
     then_try (ok_or (amo_value op width old operand) PointerUse) (λ value.
     after_put at (width_of width) value (sets turn rd (widened_value width old)))))
 
 -- a load-reserved
-abbrev pub reserves : WorldTurn → Width → ℕ → Value → Result WorldStep ObjectWhy
-reserves turn width rd address =
+abbrev pub reserve_step : WorldTurn → Width → ℕ → Value → Result WorldStep ObjectWhy
+reserve_step turn width rd address =
     then_try (aimed turn access.Load (width_of width) address true) (λ at.
     then_try (value_at turn at (width_of width)) (λ value.
     Ok (record (sets turn rd (widened_value width value)) { reservation = Some (record { place = at; width = width }) })))

@@ -15,6 +15,7 @@ pub data Meaning (D E : Type 0) : Type 0 where
   Errs : E → Meaning D E
   Unfit : Meaning D E
 
+-- what is left to choose, and what is done by each choice
 pub data Offer (D E : Type 0) : Type 0 where
   Only : D → Offer D E  -- nothing is left to choose
   Grants : Meaning D E → D → Offer D E  -- memory is given, or the call refused

@@ -3,7 +3,8 @@
 -- something to choose: so an event that does not fit the world may well change it, as a store-conditional
 -- does that is said to succeed without a reservation. Nothing changes where the hart runs no thread, the
 -- instruction traps, the call is unknown, the choice is none of the instruction's, a thread would start on
--- a hart that is not idle, a join or wait looks at what has not ended, or a realloc at what is not held.
+-- a hart that is not idle, a share is of no pages, a join or wait looks at what has not ended, or a realloc
+-- at what is not held; a free of what is not held answers 0.
 use Rattle.std.specs.Prelude.{ℕ, ◌-◌, ◌%◌, ◌==◌, nat_lt, if◌then◌else◌, List, [], ◌∷◌, Option, Some, None}
 use Rattle.std.specs.Option.{option_and_then}
 use Rattle.osc_word.specs.declared.steps.Choice.{Choice}

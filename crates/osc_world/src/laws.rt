@@ -9,8 +9,8 @@ mod values;
 
 pub use events::{
     errors_do_not_depend_on_choices, first_error_stays, fitting_goes_on, fork_copies,
-    idle_harts_do_not_fit, other_instructions_are_plain, output_fits_its_room, runs_go_on,
-    stuck_stays, unfit_is_trap, worlds_only_grow,
+    idle_harts_do_not_fit, other_instructions_are_plain, output_fits_its_room,
+    pointers_name_objects, runs_go_on, stuck_stays, unfit_is_trap, worlds_only_grow,
 };
 pub use examples::{
     fork_copies_and_shares, join_gives_the_value, loads_from_nothing_err, misuses_err,

@@ -15,7 +15,10 @@ ghost use Rattle.osc_world.specs.Deeds.{Forks, state_after};
 ghost use Rattle.osc_world.specs.Offers.{Goes, Errs};
 ghost use Rattle.osc_world.specs.Calls.{world_kind};
 ghost use Rattle.osc_world.specs.Events.{does, meaning, IsNoConditional, LeavesNothingOpen, fits};
-ghost use Rattle.osc_world.specs.Run.{ObjectRun, all_fit, judged, object_run};
+ghost use Rattle.osc_world.specs.Run.{ObjectRun, all_fit, boot, judged, object_run};
+ghost use Rattle.osc_world.specs.Knows.{Knows};
+ghost use Rattle.osc_image.specs.Image.{Image};
+ghost use Rattle.osc_word.specs.declared.settings.Config.{Config};
 ghost use Rattle.osc_world.specs.PlainWorld as plain_world;
 ghost use Rattle.osc_world.specs.PlainRun.{plain_run};
 
@@ -94,4 +97,12 @@ pub fn worlds_only_grow()
     ensures objects { (turn : WorldTurn) (deed : WorldDeed) (pid : ℕ) (was now : Process Memory)
         → slice_get turn.state.processes turn.pid ≡ Some turn.process → slice_get turn.state.processes pid ≡ Some was
         → slice_get (state_after world_kind turn deed).processes pid ≡ Some now → length was.memory.objects ≤ length now.memory.objects }
+{}
+
+/// Each pointer of a world that a run reaches names a granted object of its process, with an offset below
+/// 2^64, and there is none in a shared region.
+pub fn pointers_name_objects()
+    ensures boot { (image : Image) (config : Config) → Knows (boot image config) }
+    ensures event { (world : World) (event : Event) (next : World) → Knows world → meaning world event ≡ Goes next → Knows next }
+    ensures run { (run : ObjectRun) (events : List Event) → Knows run.world → Knows (object_run run events).world }
 {}

@@ -18,7 +18,7 @@ ghost use Rattle.osc_world.specs.World.{WorldTurn, Object, Live, Dead};
 ghost use Rattle.osc_world.specs.Operations.{is_taken_for};
 ghost use Rattle.osc_world.specs.Accesses.{is_aligned, is_shared_area, is_reserved_word, disturbed, overlaid, object_overlaid, puts};
 ghost use Rattle.osc_world.specs.Offers.{Errs, Unfit};
-ghost use Rattle.osc_world.specs.Instructions.{loads, stores, holds_reservation, succeeds, objects_of};
+ghost use Rattle.osc_world.specs.Instructions.{load_step, store_step, holds_reservation, succeeds, objects_of};
 ghost use Rattle.osc_world.specs.Calls.{free_deed, resized, zeros, without_object};
 
 /// Pointers to two live objects, neither past its object's end, are different.
@@ -32,9 +32,9 @@ pub fn live_objects_differ()
 #[tactic(auto, unfolding(crate::specs::Accesses::reached_place))]
 pub fn dead_objects_refuse()
     ensures loads { (turn : WorldTurn) (kind : LoadKind) (rd o k size : ℕ) → slice_get (objects_of turn) o ≡ Some (Dead size)
-        → is_aligned (load_width kind) (Ptr o k) ≡ true → loads turn kind rd (Ptr o k) ≡ Err DeadObject }
+        → is_aligned (load_width kind) (Ptr o k) ≡ true → load_step turn kind rd (Ptr o k) ≡ Err DeadObject }
     ensures stores { (turn : WorldTurn) (o k size : ℕ) (value : Value) → slice_get (objects_of turn) o ≡ Some (Dead size)
-        → is_aligned 8 (Ptr o k) ≡ true → stores turn 8 (Ptr o k) value ≡ Err DeadObject }
+        → is_aligned 8 (Ptr o k) ≡ true → store_step turn 8 (Ptr o k) value ≡ Err DeadObject }
 {}
 
 /// A pointer to any other place of an object than its start can't be freed, nor can one to a dead object.

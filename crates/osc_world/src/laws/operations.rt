@@ -15,7 +15,7 @@ ghost use Rattle.osc_world.specs.declared.Area.TheVariants.{Shared};
 ghost use Rattle.osc_world.specs.World.{WorldTurn, Object, Dead, object_size};
 ghost use Rattle.osc_world.specs.Operations.{operated, operated_imm, multiplied, amo_value};
 ghost use Rattle.osc_world.specs.Accesses.{is_aligned, is_storable, in_area, puts};
-ghost use Rattle.osc_world.specs.Instructions.{objects_of, stores};
+ghost use Rattle.osc_world.specs.Instructions.{objects_of, store_step};
 
 /// A number added and taken away again gives the pointer; two pointers to one object have a distance, and
 /// two to different ones have none.
@@ -52,10 +52,10 @@ pub fn pointers_are_not_multiplied()
 /// object; a pointer into a shared region is the last.
 #[tactic(auto, unfolding(crate::specs::Accesses::reached_place))]
 pub fn first_errors_are_chosen()
-    ensures alignment { (turn : WorldTurn) (width : ℕ) (address value : Value) → is_aligned width address ≡ false → stores turn width address value ≡ Err Trap }
+    ensures alignment { (turn : WorldTurn) (width : ℕ) (address value : Value) → is_aligned width address ≡ false → store_step turn width address value ≡ Err Trap }
     ensures operand { (turn : WorldTurn) (width : ℕ) (address value : Value) → is_aligned width address ≡ true → is_storable width value ≡ false
-        → stores turn width address value ≡ Err PointerUse }
+        → store_step turn width address value ≡ Err PointerUse }
     ensures dead { (turn : WorldTurn) (width o k size : ℕ) (value : Value) → is_aligned width (Ptr o k) ≡ true → is_storable width value ≡ true
-        → slice_get (objects_of turn) o ≡ Some (Dead size) → stores turn width (Ptr o k) value ≡ Err DeadObject }
+        → slice_get (objects_of turn) o ≡ Some (Dead size) → store_step turn width (Ptr o k) value ≡ Err DeadObject }
     ensures shared { (page offset o k : ℕ) → puts (in_area (Shared page) offset) 8 (Ptr o k) ≡ Err PointerShared }
 {}
