@@ -1,6 +1,6 @@
 pub mod PlanLawProofs
+pub mod RefusalLawProofs
 pub mod ObjectLawProofs
 pub mod WordLawProofs
 pub mod ForkLawProofs
-pub mod UsedLawProofs
 pub mod AgreeExampleProofs

@@ -4,9 +4,9 @@ use Rattle.std.specs.List.{list_any}
 use Rattle.std.proofs.lemmas.Bool.Decides.{nat_tests}
 use Rattle.std.proofs.lemmas.List.Sums.{sum_by-cons, sum_by_push}
 use Rattle.osc_space.specs.declared.ObjectFact.{ObjectFact}
-use Rattle.osc_space.specs.Ranges.{first_shadow_page, is_within}
-use Rattle.osc_space.specs.Objects.{mark, next_page, granted_at, grant, killed, kill, has_page, is_live, is_in_leaf}
-use Rattle.osc_space.specs.ObjectLaws.{GrantedFrom, AreGranted, GrantsKeep, PagesAreGrantedOnce, DeadLeavesAreDead}
+use Rattle.osc_word.specs.AddressMap.{first_shadow_page, is_within}
+use Rattle.osc_space.specs.Objects.{GrantedFrom, AreGranted, mark, next_page, granted_at, grant, killed, kill, has_page, is_live, is_in_leaf}
+use Rattle.osc_space.specs.ObjectLaws.{GrantsKeep, PagesAreGrantedOnce, DeadLeavesAreDead}
 
 mark-cons : (o : ObjectFact) (objects : List ObjectFact) → mark (o ∷ objects) ≡ o.pages + mark objects
 mark-cons o objects = sum_by-cons (λ (o : ObjectFact). o.pages) o objects

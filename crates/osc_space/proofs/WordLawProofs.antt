@@ -1,5 +1,5 @@
 -- The laws of the words of a block, by induction over the pieces.
-use Rattle.std.proofs.Common.{ℕ, zero, suc, ◌+◌, ◌-◌, ◌*◌, ◌/◌, ◌%◌, ◌≡◌, ◌<◌, ◌≤◌, ◌==◌, ◌&&◌, inl, inr, nat_lt, min, max, Bool, true, false, cond, List, [], ◌∷◌, ◌++◌, map, sum_by, arith, refl}
+use Rattle.std.proofs.Common.{ℕ, zero, suc, ◌+◌, ◌-◌, ◌*◌, ◌/◌, ◌%◌, ◌≡◌, ◌≢◌, ◌<◌, ◌≤◌, ◌==◌, ◌&&◌, inl, inr, nat_lt, min, max, Bool, true, false, cond, List, [], ◌∷◌, ◌++◌, map, sum_by, arith, refl}
 use Rattle.std.specs.List.{list_any}
 use Rattle.std.proofs.lemmas.Bool.Decides.{nat_tests}
 use Rattle.std.proofs.lemmas.List.Sums.{sum_by-append}
@@ -9,9 +9,9 @@ use Rattle.osc_word.specs.declared.job_list.Job.TheVariants.{ZeroWords, CopyWord
 use Rattle.osc_class.specs.Rooms.{block_bytes}
 use Rattle.osc_slot.specs.declared.Block.{Block}
 use Rattle.osc_slot.specs.declared.HeapPage.{HeapPage}
-use Rattle.osc_space.specs.Ranges.{is_within}
-use Rattle.osc_space.specs.BlockWords.{Stretch, stretch, cut, stretches, words_in, block_word, part_job, whole_end}
-use Rattle.osc_space.specs.WordLaws.{AreCut, StretchesCut, LiesInFrames, StayInFrames, NoPieceCrosses}
+use Rattle.osc_word.specs.AddressMap.{is_within}
+use Rattle.osc_space.specs.BlockWords.{Stretch, stretch, cut, stretches, words_in, block_word, zero_jobs, size_job, part_job, whole_end, words_end}
+use Rattle.osc_space.specs.WordLaws.{AreCut, StretchesCut, LiesInFrames, StayInFrames, NoPieceCrosses, IsFrameOf, AllWriteIn, BlockJobsStay}
 
 -- ---- pieces
 cut_cut : (count piece from to : ℕ) → AreCut from to (cut count piece from to)
@@ -96,3 +96,45 @@ no_piece_crosses = record {
   zero = λ pages block from to k l. zero_stays pages block from to (stretches from to) k l (stretches_cut from to).cut;
   copy = λ pages old block bytes k j l m. copy_stays pages old block 16 (whole_end bytes) (stretches 16 (whole_end bytes)) (part_job pages old block bytes) k j l m (stretches_cut 16 (whole_end bytes)).cut (part_stays pages old block bytes);
 }
+
+-- ---- the frames of a block
+append_in : (pages : List HeapPage) (block : Block) (xs ys : List Job) → AllWriteIn pages block xs → AllWriteIn pages block ys → AllWriteIn pages block (xs ++ ys)
+append_in pages block [] ys h k = k
+append_in pages block (x ∷ xs) ys h k = (h.0, append_in pages block xs ys h.1 k)
+
+at_offset : (pages : List HeapPage) (block : Block) (offset : ℕ) → offset < block_bytes block.room → IsFrameOf pages block (block_word pages block offset).frame
+at_offset pages block offset l = record { offset = offset; within = l; is = refl }
+
+zero_in : (pages : List HeapPage) (block : Block) (from : ℕ) (ss : List Stretch) → AreCut from (block_bytes block.room) ss → AllWriteIn pages block (map (λ (s : Stretch). ZeroWords (block_word pages block s.from) (words_in s)) ss)
+zero_in pages block from [] c = tt
+zero_in pages block from (s ∷ ss) c =
+    (at_offset pages block s.from (let a = c.1 in let b = c.2 in omega (arith, a, b)), zero_in pages block from ss c.4)
+
+copy_in : (pages : List HeapPage) (old block : Block) (from to : ℕ) (ss : List Stretch) → to ≤ block_bytes block.room → AreCut from to ss → AllWriteIn pages block (map (λ (s : Stretch). CopyWords (block_word pages old s.from) (block_word pages block s.from) (words_in s)) ss)
+copy_in pages old block from to [] l c = tt
+copy_in pages old block from to (s ∷ ss) l c =
+    (at_offset pages block s.from (let a = c.1 in let b = c.2 in omega (arith, l, a, b)), copy_in pages old block from to ss l c.4)
+
+part_in : (pages : List HeapPage) (old block : Block) (bytes : ℕ) → 16 + bytes ≤ block_bytes block.room → AllWriteIn pages block (part_job pages old block bytes)
+part_in pages old block bytes l = go (bytes % 8 == 0) refl
+  where
+    go : (b : Bool) → (bytes % 8 == 0) ≡ b → AllWriteIn pages block (cond b [] (CopyPart (block_word pages old (whole_end bytes)) (block_word pages block (whole_end bytes)) (bytes % 8) ∷ []))
+    go true e = tt
+    go false e = (at_offset pages block (whole_end bytes) (let n : bytes % 8 ≢ 0 = grind (arith, nat_tests, e) in omega (arith, l, n)), tt)
+
+pub block_jobs_stay : (pages : List HeapPage) (block : Block) → BlockJobsStay pages block
+block_jobs_stay pages block = record {
+  zero = zeroes 16;
+  header = λ size l. (at_offset pages block 0 (omega (arith, l)), (at_offset pages block 8 (omega (arith, l)), tt));
+  copy = λ old bytes l.
+      append_in pages block _ (part_job pages old block bytes)
+      (copy_in pages old block 16 (whole_end bytes) (stretches 16 (whole_end bytes)) (omega (arith, l)) (stretches_cut 16 (whole_end bytes)).cut)
+      (part_in pages old block bytes l);
+  trim = λ bytes size l.
+      append_in pages block (part_job pages block block bytes ++ zero_jobs pages block (words_end bytes) (block_bytes block.room)) (size_job pages block size ∷ [])
+      (append_in pages block (part_job pages block block bytes) _ (part_in pages block block bytes l) (zeroes (words_end bytes)))
+      (at_offset pages block 8 (omega (arith, l)), tt);
+}
+  where
+    zeroes : (from : ℕ) → AllWriteIn pages block (zero_jobs pages block from (block_bytes block.room))
+    zeroes from = zero_in pages block from (stretches from (block_bytes block.room)) (stretches_cut from (block_bytes block.room)).cut

@@ -12,7 +12,7 @@ use Rattle.osc_class.specs.Rooms.{block_bytes, shadow_pages}
 use Rattle.osc_slot.specs.declared.Block.{Block}
 use Rattle.osc_slot.specs.declared.HeapPage.{HeapPage}
 use Rattle.osc_slot.specs.Heap.{frame_of}
-use Rattle.osc_space.specs.Ranges.{read_write_at}
+use Rattle.osc_space.specs.LeafFlags.{read_write_at}
 
 -- ---- places
 -- the frame of a page that holds a block

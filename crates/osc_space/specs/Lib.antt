@@ -1,7 +1,7 @@
 pub use Rattle.osc_slot.specs.Heap
 pub use Rattle.osc_paging.specs.KeptTables
 pub use Rattle.osc_paging.specs.TableChanges
-pub mod Ranges
+pub mod LeafFlags
 pub mod Objects
 pub mod Space
 pub mod BlockWords
@@ -17,8 +17,8 @@ pub mod Agree
 pub mod Used
 pub mod ObjectLaws
 pub mod WordLaws
+pub mod RefusalLaws
 pub mod PlanLaws
 pub mod ForkLaws
-pub mod UsedLaws
 pub mod Examples
 pub mod AgreeExamples

@@ -1,18 +1,9 @@
 -- The laws of objects and of the mark.
-use Rattle.std.specs.Prelude.{ℕ, ◌+◌, ◌*◌, ◌%◌, ◌≡◌, ◌<◌, ◌≤◌, true, false, Some, List, [], ◌∷◌, slice_get}
+use Rattle.std.specs.Prelude.{ℕ, ◌+◌, ◌*◌, ◌≡◌, ◌<◌, ◌≤◌, true, false, Some, List, [], slice_get}
 use Rattle.std.specs.List.{list_any}
 use Rattle.osc_space.specs.declared.ObjectFact.{ObjectFact}
-use Rattle.osc_space.specs.Ranges.{first_shadow_page, is_within}
-use Rattle.osc_space.specs.Objects.{mark, next_page, grant, kill, has_page, is_live_page, leaf_dead}
-
--- the pages of each object begin where those of the one before end
-abbrev pub GrantedFrom : ℕ → List ObjectFact → Type 0
-GrantedFrom page [] = Unit {0}
-GrantedFrom page (o ∷ objects) =
-    (o.first ≡ page) × (0 < o.pages) × (o.user ≡ o.first * 4096 + o.canon % 4096) × GrantedFrom (page + o.pages) objects
-
-abbrev pub AreGranted : List ObjectFact → Type 0
-AreGranted objects = GrantedFrom first_shadow_page objects
+use Rattle.osc_word.specs.AddressMap.{first_shadow_page, is_within}
+use Rattle.osc_space.specs.Objects.{AreGranted, mark, next_page, grant, kill, has_page, is_live_page, leaf_dead}
 
 -- a grant raises the mark by its pages, and a death leaves it
 pub record GrantsKeep : Type 0 where

@@ -1,78 +1,84 @@
 -- Realloc: always a fresh object with fresh shadow pages, and the old one is dead. The block stays
 -- exactly where the room of the new size is the old one; else the bytes are copied into a new block,
--- and the old one is given back when the call finishes. This project's own.
-use Rattle.std.specs.Prelude.{ℕ, min, Bool, true, false, Option, Some, None}
-use Rattle.osc_word.specs.declared.calls.Answer.{Answer}
-use Rattle.osc_word.specs.declared.calls.Answer.TheVariants.{Moved, DoubleFree, NotAnObject}
+-- and the old one is given back when the call returns. Each realloc that is done flushes: the objects
+-- that waited are let go with the old one. This project's own.
+use Rattle.std.specs.Prelude.{ℕ, min, Bool, true, false, Option, Some, None, List, [], ◌∷◌, ◌++◌}
+use Rattle.osc_word.specs.declared.job_list.Job.{Job}
+use Rattle.osc_word.specs.declared.calls.Answer.TheVariants.{Moved, NotAnObject}
 use Rattle.osc_class.specs.Rooms.{room_of, shadow_pages}
 use Rattle.osc_slot.specs.declared.Block.{Block}
+use Rattle.osc_slot.specs.declared.HeapPage.{HeapPage}
 use Rattle.osc_slot.specs.Slots.{is_room}
 use Rattle.osc_slot.specs.Heap.{next_block}
 use Rattle.osc_space.specs.declared.ObjectFact.{ObjectFact}
-use Rattle.osc_space.specs.declared.Closing.{Closing}
-use Rattle.osc_space.specs.declared.Closing.TheVariants.{NoBlock, GiveBlock}
-use Rattle.osc_space.specs.Objects.{next_page, next_object}
-use Rattle.osc_space.specs.Header.{Pointee, Null, Living, Departed, Nobody, pointee, Found, damage, block_of}
-use Rattle.osc_space.specs.Space.{Draft, Outcome, unchanged, push}
-use Rattle.osc_space.specs.BlockWords.{copy_jobs, trim_jobs}
-use Rattle.osc_space.specs.Malloc.{refusal, block_need, place_block, fill_block, grant_object, map_shadows, next_user, malloc_plan}
-use Rattle.osc_space.specs.Free.{let_go, kill_object}
+use Rattle.osc_space.specs.Objects.{Seen, next_page, next_object, object_at}
+use Rattle.osc_space.specs.Header.{Found, object_reasons, block_of}
+use Rattle.osc_space.specs.Space.{Draft, Terms, Outcome, GivesBack, Reason, first_reason, unless, unchanged, push}
+use Rattle.osc_space.specs.BlockWords.{zero_block, header_jobs, copy_jobs, trim_jobs}
+use Rattle.osc_space.specs.Malloc.{memory_reasons, block_need, place_block, grant_object, map_shadows, next_user}
+use Rattle.osc_space.specs.Free.{waiting_facts, waiting_blocks, kill_object, unmap_object, flush}
 
--- the next object is in this block, and the old one is dead; leaf tables are judged after that
-abbrev pub replace_object : ℕ → ℕ → ℕ → ObjectFact → Block → ℕ → Draft → Draft
-replace_object harts call object o block n d = let_go harts o (kill_object object call (grant_object block n d))
+-- ---- the block: the old one where it stays, else the next of the new room
+abbrev pub stays : ObjectFact → ℕ → Bool
+stays o n = is_room (room_of n) (room_of o.size)
 
--- the bytes that both sizes have
-abbrev pub trim_block : Block → ℕ → ℕ → Draft → Draft
-trim_block block bytes n d = push (trim_jobs d.space.heap.pages block bytes n) d
+-- nothing that is given back counts in the need
+abbrev pub frames_for : Bool → ℕ → Draft → ℕ
+frames_for true n d = 0
+frames_for false n d = block_need d (room_of n)
 
-abbrev pub copy_block : Block → Block → ℕ → Draft → Draft
-copy_block old block bytes d = push (copy_jobs d.space.heap.pages old block bytes) d
+abbrev pub block_for : Bool → ObjectFact → ℕ → Draft → Block
+block_for true o n d = block_of o
+block_for false o n d = next_block d.space.heap (room_of n)
 
-abbrev pub moved : ℕ → Block → Closing → Draft → Draft → Outcome
-moved object block closing d made = record {
-  answer = Moved object (next_object d.space.objects) (next_user d.space.objects block);
-  draft = made;
-  closing = closing;
-}
+abbrev pub place_where : Bool → ℕ → Draft → Draft
+place_where true n d = d
+place_where false n d = place_block (room_of n) d
 
--- ---- in place
-abbrev pub stay_by : Option Answer → ℕ → ℕ → ℕ → ℕ → ObjectFact → ℕ → Draft → Outcome
-stay_by (Some refused) top harts call object o n d = unchanged refused d
-stay_by None top harts call object o n d =
-    moved object (block_of o) NoBlock d
-    (map_shadows top (next_page d.space.objects) (block_of o)
-    (trim_block (block_of o) (min o.size n) n (replace_object harts call object o (block_of o) n d)))
+abbrev pub left_block : Bool → ObjectFact → List Block
+left_block true o = []
+left_block false o = block_of o ∷ []
 
--- ---- to another block
-abbrev pub move_to : ℕ → ℕ → ℕ → ℕ → ObjectFact → ℕ → Block → Draft → Outcome
-move_to top harts call object o n block d =
-    moved object block (GiveBlock (block_of o)) d
-    (map_shadows top (next_page d.space.objects) block
-    (copy_block (block_of o) block (min o.size n)
-    (fill_block block n (replace_object harts call object o block n (place_block block.room d)))))
-
-abbrev pub move_by : Option Answer → ℕ → ℕ → ℕ → ℕ → ObjectFact → ℕ → Draft → Outcome
-move_by (Some refused) top harts call object o n d = unchanged refused d
-move_by None top harts call object o n d = move_to top harts call object o n (next_block d.space.heap (room_of n)) d
+-- the bytes that both sizes have are kept
+abbrev pub bytes_jobs : Bool → List HeapPage → ObjectFact → Block → ℕ → List Job
+bytes_jobs true pages o block n = trim_jobs pages block (min o.size n) n
+bytes_jobs false pages o block n =
+    zero_block pages block ++ header_jobs pages block n ++ copy_jobs pages (block_of o) block (min o.size n)
 
 -- ---- the plan
--- nothing that is given back counts in the need
-abbrev pub resize : Bool → ℕ → ℕ → ℕ → ℕ → ObjectFact → ℕ → Draft → Outcome
-resize true top harts call object o n d =
-    stay_by (refusal top d 0 (shadow_pages (room_of n))) top harts call object o n d
-resize false top harts call object o n d =
-    move_by (refusal top d (block_need d (room_of n)) (shadow_pages (room_of n))) top harts call object o n d
+abbrev pub let_go : ℕ → ObjectFact → Draft → Draft
+let_go harts o d = flush harts (waiting_facts d.space ++ o ∷ []) (unmap_object o d)
 
-abbrev pub realloc_by : Option Answer → ℕ → ℕ → ℕ → ℕ → ObjectFact → ℕ → Draft → Outcome
-realloc_by (Some damaged) top harts call object o n d = unchanged damaged d
-realloc_by None top harts call object o n d = resize (is_room (room_of n) (room_of o.size)) top harts call object o n d
+-- the next object is in this block, and the old one is dead; leaf tables are judged after that
+abbrev pub replace_object : Terms → Seen → Block → ℕ → Draft → Draft
+replace_object terms s block n d =
+    let_go terms.harts s.fact (kill_object s.number terms.call (grant_object block n d))
 
-abbrev pub realloc_at : Pointee → ℕ → ℕ → ℕ → ℕ → Found → Draft → Outcome
-realloc_at Null top harts call n found d = malloc_plan top n d
-realloc_at (Living object o) top harts call n found d = realloc_by (damage o found) top harts call object o n d
-realloc_at (Departed object since) top harts call n found d = unchanged (DoubleFree object since) d
-realloc_at Nobody top harts call n found d = unchanged NotAnObject d
+abbrev pub keep_bytes : Bool → ObjectFact → Block → ℕ → Draft → Draft
+keep_bytes stay o block n d = push (bytes_jobs stay d.space.heap.pages o block n) d
 
-abbrev pub realloc_plan : ℕ → ℕ → ℕ → ℕ → ℕ → Found → Draft → Outcome
-realloc_plan top harts call pointer n found d = realloc_at (pointee d.space.objects pointer) top harts call n found d
+abbrev pub realloc_in : Bool → Terms → Seen → ℕ → Block → Draft → Outcome
+realloc_in stay terms s n block d = record {
+  answer = Moved s.number (next_object d.space.objects) (next_user d.space.objects block);
+  draft =
+      map_shadows (next_page d.space.objects) block
+      (keep_bytes stay s.fact block n (replace_object terms s block n (place_where stay n d)));
+  closing = GivesBack (waiting_blocks d.space ++ left_block stay s.fact);
+}
+
+abbrev pub realloc_made : Bool → Terms → Seen → ℕ → Draft → Outcome
+realloc_made stay terms s n d = realloc_in stay terms s n (block_for stay s.fact n d) d
+
+-- the old object first, and then the memory
+abbrev pub realloc_reasons : Option Seen → ℕ → Found → Draft → List Reason
+realloc_reasons None n found d = object_reasons None found
+realloc_reasons (Some s) n found d =
+    object_reasons (Some s) found ++ memory_reasons (frames_for (stays s.fact n) n d) (shadow_pages (room_of n)) d
+
+abbrev pub realloc_seen : Option Seen → Terms → ℕ → Found → Draft → Outcome
+realloc_seen None terms n found d = unchanged NotAnObject d
+realloc_seen (Some s) terms n found d =
+    unless (first_reason (realloc_reasons (Some s) n found d)) d (realloc_made (stays s.fact n) terms s n d)
+
+unfoldable pub realloc_plan : Terms → ℕ → ℕ → Found → Draft → Outcome
+realloc_plan terms pointer n found d = realloc_seen (object_at d.space.objects pointer) terms n found d

@@ -1,24 +1,17 @@
 -- The frames that a process uses, by what was ever mapped: its tables, less the leaf tables that were
--- given up, the pages of its image, of which the stack has 16 more, and those that hold blocks.
--- Which tables there are follows the RISC-V Privileged manual, "Sv39": a root, and one table for each
--- different VPN[2], and for each different pair VPN[2], VPN[1]; the rest is this project's own.
-use Rattle.std.specs.Prelude.{ℕ, zero, suc, ◌+◌, ◌-◌, List, map}
-use Rattle.osc_sv39.specs.Walk.{piece}
-use Rattle.osc_image.specs.Frames.{different}
+-- given up, the pages of its image and of its stack, and those that hold blocks. This project's own.
+use Rattle.std.specs.Prelude.{ℕ, ◌+◌, ◌-◌, List}
+use Rattle.osc_word.specs.AddressMap.{stack_size}
+use Rattle.osc_image.specs.Frames.{table_count}
 use Rattle.osc_slot.specs.declared.Block.{Block}
 use Rattle.osc_slot.specs.Slots.{block_frames}
 
--- how many tables stand over these pages, from the leaves to the level below this one
-abbrev pub tables_below : ℕ → List ℕ → ℕ
-tables_below zero ever = 0
-tables_below (suc level) ever = different (map (piece (suc level)) ever) + tables_below level ever
-
--- the tables of a process; `top` is the level of its root
+-- the tables of a process of so many levels
 abbrev pub tables_used : ℕ → List ℕ → ℕ → ℕ
-tables_used top ever given_up = 1 + tables_below top ever - given_up
+tables_used levels ever given_up = table_count levels ever - given_up
 
 -- the pages ever mapped, how many leaf tables were given up, how many pages the image has, and how
 -- many frames the machine has, with the held blocks
 unfoldable pub frames_used : ℕ → List ℕ → ℕ → ℕ → ℕ → List Block → ℕ
-frames_used top ever given_up image_pages frames held =
-    tables_used top ever given_up + image_pages + 16 + block_frames frames held
+frames_used levels ever given_up image_pages frames held =
+    tables_used levels ever given_up + image_pages + stack_size + block_frames frames held

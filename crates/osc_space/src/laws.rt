@@ -1,23 +1,39 @@
 //! The laws of the plans. Each function does nothing: what it says is proved of the definitions.
 
-ghost use Rattle.std.specs.Prelude.{ℕ};
-ghost use Rattle.osc_space.specs.Space.{Draft};
-ghost use Rattle.osc_space.specs.PlanLaws.{RefusalsKeep, LackIsAboveFree, MallocRefused, RefusedForWant, MarkNeverFalls, ClearsEachBox, FreesWait, AddressesAreFresh};
-ghost use Rattle.osc_space.specs.WordLaws.{StretchesCut, NoPieceCrosses};
-ghost use Rattle.osc_space.specs.ForkLaws.{ForksApart};
-ghost use Rattle.osc_space.specs.UsedLaws.{UsedAsCounted};
+ghost use Rattle.std.specs.Prelude.{ℕ, ◌≡◌, Bool, List};
+ghost use Rattle.osc_image.specs.Frames.{table_count};
+ghost use Rattle.osc_slot.specs.declared.Block.{Block};
+ghost use Rattle.osc_slot.specs.declared.HeapPage.{HeapPage};
+ghost use Rattle.osc_space.specs.declared.ObjectFact.{ObjectFact};
+ghost use Rattle.osc_space.specs.Objects.{Seen};
+ghost use Rattle.osc_space.specs.Space.{Space, Draft};
+ghost use Rattle.osc_space.specs.Header.{Found};
+ghost use Rattle.osc_space.specs.Share.{Sharing};
+ghost use Rattle.osc_space.specs.Used.{tables_used};
+ghost use Rattle.osc_space.specs.RefusalLaws.{PlansGoByReasons, RefusalsKeep, RefusedForWant, ObjectRefused, ReallocRefused, PlainRefused, ForkRefused, ShareRefused};
+ghost use Rattle.osc_space.specs.PlanLaws.{MarkNeverFalls, ClearsEachBox, FreesWait, BatchesOfOneFlush, ReallocsFlush, FlushesEnd, FlushGivesUp, AddressesAreFresh};
+ghost use Rattle.osc_space.specs.WordLaws.{StretchesCut, NoPieceCrosses, BlockJobsStay};
+ghost use Rattle.osc_space.specs.ForkLaws.{ForksApart, ForksCopyEach};
 ghost use Rattle.osc_space.specs.ObjectLaws.{GrantsKeep, PagesAreGrantedOnce, DeadLeavesAreDead};
 
-/// A refused plan changes nothing.
-#[tactic(auto, using(crate::proofs::PlanLawProofs::refusals_keep))]
-pub fn refusals_keep()
-    ensures { RefusalsKeep }
+/// A plan answers the first of its reasons that holds and changes nothing then; where none holds it
+/// is done.
+#[tactic(auto, using(crate::proofs::RefusalLawProofs::plans_go_by_reasons, crate::proofs::RefusalLawProofs::refusals_keep))]
+pub fn plans_go_by_reasons()
+    ensures reasons { PlansGoByReasons }
+    ensures keeps { RefusalsKeep }
 {}
 
-/// That tables are not counted where the frames alone are too many changes no answer.
-#[tactic(auto, using(crate::proofs::PlanLawProofs::lack_is_above_free))]
-pub fn lack_is_above_free()
-    ensures { LackIsAboveFree }
+/// The reasons of malloc, realloc, fork and share, in plain numbers: each is refused exactly for
+/// want, and by which want first. A realloc is refused for its object before any want.
+#[tactic(auto, using(crate::proofs::RefusalLawProofs::refused_for_want, crate::proofs::RefusalLawProofs::object_refused, crate::proofs::RefusalLawProofs::realloc_refused, crate::proofs::RefusalLawProofs::plain_refused, crate::proofs::RefusalLawProofs::fork_refused, crate::proofs::RefusalLawProofs::share_refused))]
+pub fn memory_is_refused_for_want()
+    ensures want { (d : Draft) (frames pages : ℕ) → RefusedForWant d frames pages }
+    ensures object { (s : Seen) (found : Found) → ObjectRefused s found }
+    ensures realloc { (s : Seen) (n : ℕ) (found : Found) (d : Draft) → ReallocRefused s n found d }
+    ensures plain { (n : ℕ) (d : Draft) → PlainRefused n d }
+    ensures fork { (s : Space) (free : List Bool) → ForkRefused s free }
+    ensures share { (n : ℕ) (s : Sharing) → ShareRefused n s }
 {}
 
 /// A grant raises the mark by its pages, and nothing lowers it.
@@ -39,25 +55,33 @@ pub fn dead_leaves_are_dead()
     ensures { DeadLeavesAreDead }
 {}
 
-/// Malloc and realloc are refused exactly for want of shadow pages, and else exactly for want of
-/// frames.
-#[tactic(auto, using(crate::proofs::PlanLawProofs::malloc_refused, crate::proofs::PlanLawProofs::refused_for_want))]
-pub fn memory_is_refused_for_want()
-    ensures malloc { (top n : ℕ) (d : Draft) → MallocRefused top n d }
-    ensures both { (top : ℕ) (d : Draft) (frames pages : ℕ) → RefusedForWant top d frames pages }
-{}
-
 /// No plan lowers the mark.
 #[tactic(auto, using(crate::proofs::PlanLawProofs::mark_never_falls))]
 pub fn mark_never_falls()
     ensures { MarkNeverFalls }
 {}
 
-/// A free leaves a job to clear the box of each hart, and gives nothing back before they are done.
-#[tactic(auto, using(crate::proofs::PlanLawProofs::clears_each_box, crate::proofs::PlanLawProofs::frees_wait))]
+/// A free's object waits, and no block and no frame is given back before the call returns. Where a
+/// batch waits the last jobs clear the box of each hart, and the blocks of all that wait are to be
+/// given back in the order of their calls; where a batch is one, each free does so.
+#[tactic(auto, using(crate::proofs::PlanLawProofs::clears_each_box, crate::proofs::PlanLawProofs::batches_of_one_flush))]
 pub fn frees_wait_for_clears()
     ensures clears { ClearsEachBox }
     ensures waits { FreesWait }
+    ensures one { BatchesOfOneFlush }
+{}
+
+/// A realloc lets go the objects that waited, and its old block last. Once a flush has returned none
+/// waits and no leaf table stands aside.
+#[tactic(auto, using(crate::proofs::PlanLawProofs::reallocs_flush, crate::proofs::PlanLawProofs::flushes_end))]
+pub fn reallocs_flush()
+    ensures blocks { ReallocsFlush }
+    ensures ends { (blocks : List Block) (d : Draft) → FlushesEnd blocks d }
+{}
+
+/// A flush gives up exactly the leaf tables that are dead and linked, over the objects that are let go.
+pub fn flushes_give_up_dead_leaves()
+    ensures { (harts : ℕ) (gone : List ObjectFact) (d : Draft) → FlushGivesUp harts gone d }
 {}
 
 /// What malloc and realloc give is the next object, in pages above all that were granted, also where
@@ -67,22 +91,27 @@ pub fn addresses_are_fresh()
     ensures { AddressesAreFresh }
 {}
 
-/// The runs of a block's words are cut at its frames: each byte is in one piece, and no job on them
-/// crosses a frame.
+/// The runs of a block's words are cut at its frames: each byte is in one piece, no job on them
+/// crosses a frame, and the jobs on a block write in the frames of its own words alone.
 #[tactic(auto, using(crate::proofs::WordLawProofs::stretches_cut, crate::proofs::WordLawProofs::no_piece_crosses))]
 pub fn no_piece_crosses_a_frame()
     ensures cut { StretchesCut }
     ensures jobs { NoPieceCrosses }
+    ensures frames { (pages : List HeapPage) (block : Block) → BlockJobsStay pages block }
 {}
 
-/// A child shares no private frame with its parent: each stands for a frame of its own that was free.
+/// A child shares no private frame with its parent: each stands for a frame of its own that was free
+/// and is taken, those of blocks that wait too.
 pub fn forks_share_no_private_frame()
     ensures { ForksApart }
 {}
 
-/// Where no leaf table was given up, a process of three levels uses the tables that an image's count
-/// has.
-#[tactic(auto, using(crate::proofs::UsedLawProofs::used_as_counted))]
+/// The jobs of a fork are the copies of its private frames: each of them, and nothing else.
+pub fn forks_copy_each_private_frame()
+    ensures { ForksCopyEach }
+{}
+
+/// Where no leaf table was given up, a process uses the tables that an image's own count has.
 pub fn tables_are_counted_as_for_images()
-    ensures { UsedAsCounted }
+    ensures { (levels : ℕ) (ever : List ℕ) → tables_used levels ever 0 ≡ table_count levels ever }
 {}

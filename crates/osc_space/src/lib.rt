@@ -6,7 +6,6 @@
 pub mod examples;
 pub mod laws;
 
-use osc_slot::Block;
 use osc_word::WordAt;
 
 /// Whether an object lives.
@@ -44,12 +43,4 @@ pub enum HeaderLook {
     DoubleFree { object: u32, call: u32 },
     /// No object starts there.
     NotAnObject,
-}
-
-/// What a call gives back when it finishes, beside the leaf tables that were given up.
-#[derive(Clone, Copy, Debug, PartialEq, Eq)]
-pub enum Closing {
-    NoBlock,
-    /// A block of the heap.
-    GiveBlock(Block),
 }
