@@ -1,0 +1,3 @@
+pub mod ObjectPlaces
+pub mod LeafCounts
+pub mod Changes
