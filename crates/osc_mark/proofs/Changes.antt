@@ -1,18 +1,16 @@
 -- What a grant and a death make of the counts.
-use Rattle.std.proofs.Common.{ℕ, zero, suc, ◌+◌, ◌-◌, ◌*◌, ◌/◌, ◌%◌, ◌≡◌, ◌<◌, ◌≤◌, Bool, true, false, cond, not, ◌&&◌, List, [], ◌∷◌, ◌++◌, Some, None, length, get_or, set, slice_get, replicate, arith, refl, sym, ap, ◌∙◌}
-use Rattle.std.specs.Prelude.{min, max, sum_by, nat_eq}
+use Rattle.std.proofs.Common.{ℕ, zero, suc, ◌+◌, ◌-◌, ◌*◌, ◌/◌, ◌≡◌, ◌<◌, ◌≤◌, Bool, true, false, not, ◌&&◌, List, [], ◌∷◌, length, get_or, set, arith, refl, ap, ◌∙◌}
+use Rattle.std.specs.Prelude.{nat_eq}
 use Rattle.std.specs.List.{list_any}
 use Rattle.std.proofs.lemmas.Bool.Decides.{nat_tests}
-use Rattle.std.proofs.lemmas.Grind.{common_steps, get_or_default_zero}
+use Rattle.std.proofs.lemmas.Grind.{get_or_default_zero}
 use Rattle.std.proofs.lemmas.List.Sums.{sum_by-cons, sum_by_push}
 use Rattle.osc_space.specs.declared.ObjectFact.{ObjectFact}
-use Rattle.osc_space.specs.declared.ObjectState.{ObjectState}
-use Rattle.osc_space.specs.declared.ObjectState.TheVariants.{Live, Dead}
 use Rattle.osc_word.specs.AddressMap.{first_shadow_page}
-use Rattle.osc_space.specs.Objects.{GrantedFrom, AreGranted, mark, fact, next_page, granted_at, grant, kill, killed, is_live, is_in_leaf, is_leaf_granted, leaf_dead}
+use Rattle.osc_space.specs.Objects.{GrantedFrom, mark, fact, next_page, granted_at, grant, kill, killed, is_live, is_in_leaf, is_leaf_granted, leaf_dead}
 use Rattle.osc_space.proofs.ObjectLawProofs.{grants_keep}
-use Rattle.osc_mark.specs.Grants.{Grants, AreMarked, lives}
-use Rattle.osc_mark.specs.Leaves.{first_leaf, pages_under, live_pages_of, live_pages, AreCounts, AreParts, AreRaised, AreLowered}
+use Rattle.osc_mark.specs.Grants.{lives}
+use Rattle.osc_mark.specs.Leaves.{first_leaf, pages_under, live_pages_of, live_pages, AreParts, AreRaised, AreLowered}
 use Rattle.osc_mark.proofs.ObjectPlaces.{lies, length-le-mark}
 
 live-cons : (leaf : ℕ) (o : ObjectFact) (os : List ObjectFact) → live_pages leaf (o ∷ os) ≡ live_pages_of leaf o + live_pages leaf os

@@ -1,3 +1,2 @@
 pub mod ObjectPlaces
-pub mod LeafCounts
 pub mod Changes

@@ -1,8 +1,7 @@
 -- Objects in the order of their grants: where each stands, and which has a page or an address.
-use Rattle.std.proofs.Common.{ℕ, zero, suc, ◌+◌, ◌-◌, ◌*◌, ◌/◌, ◌%◌, ◌≡◌, ◌≢◌, ◌<◌, ◌≤◌, ◌==◌, Bool, true, false, List, [], ◌∷◌, Some, None, length, get_or, slice_get, arith, refl, sym, ap, ◌∙◌}
-use Rattle.std.specs.Prelude.{Option, option_map, position}
+use Rattle.std.proofs.Common.{ℕ, zero, suc, ◌+◌, ◌-◌, ◌*◌, ◌/◌, ◌%◌, ◌≡◌, ◌≢◌, ◌<◌, ◌≤◌, ◌==◌, Bool, true, false, List, [], ◌∷◌, Some, None, length, get_or, slice_get, arith, refl}
+use Rattle.std.specs.Prelude.{option_map, position}
 use Rattle.std.proofs.lemmas.Bool.Decides.{nat_tests}
-use Rattle.std.proofs.lemmas.Grind.{common_steps}
 use Rattle.std.proofs.lemmas.List.Sums.{position_or_len_is, sum_by-cons}
 use Rattle.osc_space.specs.declared.ObjectFact.{ObjectFact}
 use Rattle.osc_space.specs.declared.ObjectState.TheVariants.{Live}
@@ -109,7 +108,7 @@ owner_gap q os i n d g e m l =
     let begins = place_for-begins q os i d (omega arith) in
     let past : (get_or os i d).first + (get_or os i d).pages ≤ q = omega arith in
     no_number (has_page q) os (none_is (has_page q) os d (λ k s.
-      grind (arith, nat_tests, past, e, above first_shadow_page os k i d g, place_for-passed q os k d g s)))
+    grind (arith, nat_tests, past, e, above first_shadow_page os k i d g, place_for-passed q os k d g s)))
 
 pub owner_none : (q : ℕ) (os : List ObjectFact) → AreGranted os → place_for q os ≡ 0 → owner os q ≡ None
 owner_none q os g e =
@@ -124,20 +123,20 @@ at_found u os i d g s e =
     number_is (λ o. o.user == u) os i d s
     (first_is (λ o. o.user == u) os i d s (grind (arith, nat_tests, e))
     (λ k l.
-      let a = above first_shadow_page os k i d g l s in
-      let x = lies first_shadow_page os k d g (omega arith) in
-      let p = page_of_user u os i d g s e in
-      grind (arith, nat_tests, a, x.some, p, page_of_user u os k d g (omega arith))))
+    let a = above first_shadow_page os k i d g l s in
+    let x = lies first_shadow_page os k d g (omega arith) in
+    let p = page_of_user u os i d g s e in
+    grind (arith, nat_tests, a, x.some, p, page_of_user u os k d g (omega arith))))
 
 pub at_other : (u : ℕ) (os : List ObjectFact) (i : ℕ) (d : ObjectFact) → AreGranted os → suc i ≡ place_for (u / 4096) os → (get_or os i d).user ≢ u → number_at os u ≡ None
 at_other u os i d g e n =
     let begins = place_for-begins (u / 4096) os i d (omega arith) in
     let inside = place_for-le-length (u / 4096) os in
     no_number (λ o. o.user == u) os (none_is (λ o. o.user == u) os d (λ k s.
-      let x = lies first_shadow_page os k d g s in
-      grind (arith, nat_tests, e, n, begins, x.some, above first_shadow_page os k i d g, page_of_user u os k d g s, place_for-passed (u / 4096) os k d g s)))
+    let x = lies first_shadow_page os k d g s in
+    grind (arith, nat_tests, e, n, begins, x.some, above first_shadow_page os k i d g, page_of_user u os k d g s, place_for-passed (u / 4096) os k d g s)))
 
 pub at_none : (u : ℕ) (os : List ObjectFact) → AreGranted os → place_for (u / 4096) os ≡ 0 → number_at os u ≡ None
 at_none u os g e =
     no_number (λ o. o.user == u) os (none_is (λ o. o.user == u) os no_object (λ k s.
-      grind (arith, nat_tests, e, page_of_user u os k no_object g s, place_for-passed (u / 4096) os k no_object g s)))
+    grind (arith, nat_tests, e, page_of_user u os k no_object g s, place_for-passed (u / 4096) os k no_object g s)))

@@ -1,5 +1,5 @@
 //! For each leaf table of the shadow range the number of its pages that have a live owner.
-#![tactic(auto, using(crate::proofs::LeafCounts::leaf_counts))]
+#![tactic(auto, using(std::proofs::lemmas::Bool::Decides::nat_tests))]
 
 ghost use Rattle.std.specs.Prelude.{ℕ, ◌≡◌, ◌+◌, ◌*◌, ◌<◌, ◌≤◌, length, slice_index_or};
 ghost use Rattle.osc_mark.specs.Leaves.{first_leaf, pages_under, AreRaised, AreLowered};
@@ -19,11 +19,7 @@ fn pages_under(leaf: u64, first: u64, pages: u32) -> u32
 {
     let from = first.max(PAGES * leaf);
     let to = (first + u64::from(pages)).min(PAGES * leaf + PAGES);
-    if from < to {
-        (to - from) as u32
-    } else {
-        0
-    }
+    if from < to { (to - from) as u32 } else { 0 }
 }
 
 /// Adds pages to the leaf tables that they stand under.

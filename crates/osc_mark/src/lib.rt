@@ -9,10 +9,8 @@ mod looks;
 mod marks;
 
 pub use marks::Marks;
-pub use osc_space::{
-    ObjectFact, ObjectState,
-    laws::{dead_leaves_are_dead, grants_keep, pages_are_granted_once},
-};
+pub use osc_space::laws::{dead_leaves_are_dead, grants_keep, pages_are_granted_once};
+pub use osc_space::{ObjectFact, ObjectState};
 
 #[cfg(test)]
 mod tests;

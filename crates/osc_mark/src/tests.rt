@@ -113,7 +113,10 @@ fn compare(rt: &impl Abort, marks: &Marks, plain: &Plain) {
         assert_eq!(rt; marks.owner(FIRST_PAGE + page as u64), owner);
     }
     for leaf in 0..9 {
-        assert_eq!(rt; marks.leaf_dead(0x8000 + leaf as u64), plain.is_leaf_dead(leaf));
+        assert_eq!(rt;
+            marks.leaf_dead(0x8000 + leaf as u64),
+            plain.is_leaf_dead(leaf)
+        );
     }
 }
 
@@ -126,7 +129,9 @@ fn grants_and_kills_in_turn(rt: HostRuntime) -> Result<(), Fail> {
     };
     let mut random: u64 = 7;
     for step in 0..4000u32 {
-        random = random.wrapping_mul(6364136223846793005).wrapping_add(1442695040888963407);
+        random = random
+            .wrapping_mul(6364136223846793005)
+            .wrapping_add(1442695040888963407);
         let pages = (random >> 33) as u32 % 4 + 1;
         if (random >> 40) % 2 == 0 && pages <= marks.left() {
             let canon = 0x20_0000_0010 + (random >> 45);
@@ -140,7 +145,7 @@ fn grants_and_kills_in_turn(rt: HostRuntime) -> Result<(), Fail> {
             plain.live.push(true)?;
         } else {
             let near = (random >> 33) as usize % 64 + step as usize / 3;
-            if plain.live.get(near) == Some(&true) {
+            if near < plain.live.len() && plain.live[near] {
                 kill_on(&rt, &mut marks, near as u32, step);
                 assert_eq!(rt; state_of(&rt, &marks, near as u32), ObjectState::Dead(step));
                 plain.live[near] = false;
@@ -150,10 +155,12 @@ fn grants_and_kills_in_turn(rt: HostRuntime) -> Result<(), Fail> {
             compare(&rt, &marks, &plain);
         }
     }
-    for object in 0..plain.live.len() {
-        if plain.live[object] {
-            kill_on(&rt, &mut marks, object as u32, 4000);
-            plain.live[object] = false;
+    assert_eq!(rt; marks.next_object() as usize, plain.live.len());
+    for object in 0..marks.next_object() {
+        let at = object as usize;
+        if at < plain.live.len() && plain.live[at] {
+            kill_on(&rt, &mut marks, object, 4000);
+            plain.live[at] = false;
         }
     }
     compare(&rt, &marks, &plain);

@@ -1,5 +1,5 @@
 -- A leaf that is granted is dead where no page of it has a live owner.
-use Rattle.std.proofs.Common.{◌≡◌, ◌-◌, arith, length, get_or, sym, ◌∙◌, ap, nat_eq}
+use Rattle.std.proofs.Common.{arith}
 use Rattle.std.specs.Vec.{vec_capacity}
 use Rattle.osc_mark.proofs.Changes.{dead_at}
 use Rattle.osc_mark.proofs.marks.Marks.leaf_dead.Goals as goal
