@@ -1,7 +1,9 @@
 -- Objects in the order of their grants: where each stands, and which has a page or an address.
-use Rattle.std.proofs.Common.{ℕ, zero, suc, ◌+◌, ◌-◌, ◌*◌, ◌/◌, ◌%◌, ◌≡◌, ◌≢◌, ◌<◌, ◌≤◌, ◌==◌, Bool, true, false, List, [], ◌∷◌, Some, None, length, get_or, slice_get, arith, refl}
-use Rattle.std.specs.Prelude.{option_map, position}
+use Rattle.std.proofs.Common.{sym, ℕ, zero, suc, ◌+◌, ◌-◌, ◌*◌, ◌/◌, ◌%◌, ◌≡◌, ◌≢◌, ◌<◌, ◌≤◌, ◌==◌, Bool, true, false, List, [], ◌∷◌, Some, None, length, get_or, slice_get, arith, refl, ◌∙◌}
+use Rattle.std.specs.Prelude.{Option, option_map, position}
+use Rattle.std.specs.List.{position_or_len}
 use Rattle.std.proofs.lemmas.Bool.Decides.{nat_tests}
+use Rattle.std.proofs.lemmas.List.Quantifiers.{position-Some}
 use Rattle.std.proofs.lemmas.List.Sums.{position_or_len_is, sum_by-cons}
 use Rattle.osc_space.specs.declared.ObjectFact.{ObjectFact}
 use Rattle.osc_space.specs.declared.ObjectState.TheVariants.{Live}
@@ -77,10 +79,11 @@ first_is p os i d s h before =
     let e = position_or_len_is p os i d (omega arith) before (λ l. h) in
     grind (arith, nat_tests, e)
 
+pub none_before : (p : ObjectFact → Bool) (os : List ObjectFact) (d : ObjectFact) → ((k : ℕ) → k < length os → p (get_or os k d) ≡ false) → position_or_len p os ≡ length os
+none_before p os d h = position_or_len_is p os (length os) d (omega arith) h (λ l. absurd (omega arith))
+
 none_is : (p : ObjectFact → Bool) (os : List ObjectFact) (d : ObjectFact) → ((k : ℕ) → k < length os → p (get_or os k d) ≡ false) → position p os ≡ None
-none_is p os d h =
-    let e = position_or_len_is p os (length os) d (omega arith) h (λ l. absurd (omega arith)) in
-    grind (arith, nat_tests, e)
+none_is p os d h = let e = none_before p os d h in grind (arith, nat_tests, e)
 
 slice_get-within : (os : List ObjectFact) (i : ℕ) (d : ObjectFact) → i < length os → slice_get os i ≡ Some (get_or os i d)
 slice_get-within [] i d l = absurd (omega arith)
@@ -92,6 +95,13 @@ number_is p os i d l e = rw (e, slice_get-within os i d l) refl
 
 no_number : (p : ObjectFact → Bool) (os : List ObjectFact) → position p os ≡ None → option_map (λ (s : Seen). s.number) (object_seen p os) ≡ None
 no_number p os e = rw e refl
+
+pub owner_is : (q : ℕ) (os : List ObjectFact) → owner os q ≡ position (has_page q) os
+owner_is q os = go (position (has_page q) os) refl
+  where
+    go : (r : Option ℕ) → position (has_page q) os ≡ r → owner os q ≡ position (has_page q) os
+    go None e = no_number (has_page q) os e ∙ sym e
+    go (Some i) e = number_is (has_page q) os i no_object (position-Some (has_page q) os i no_object e).0 e ∙ sym e
 
 -- ---- the object with a page
 pub owner_found : (q : ℕ) (os : List ObjectFact) (i n : ℕ) (d : ObjectFact) → AreGranted os → suc i ≡ place_for q os → n ≡ (get_or os i d).pages → q - (get_or os i d).first < n → owner os q ≡ Some i

@@ -4,10 +4,12 @@
 //! the number of pages that may be granted.
 #![tactic(auto)]
 
+mod laws;
 mod leaves;
 mod looks;
 mod marks;
 
+pub use laws::owners_stay;
 pub use marks::Marks;
 pub use osc_space::laws::{dead_leaves_are_dead, grants_keep, pages_are_granted_once};
 pub use osc_space::{ObjectFact, ObjectState};
