@@ -1,0 +1,3 @@
+pub mod ObjectPlaces
+pub mod Changes
+pub mod Owners
