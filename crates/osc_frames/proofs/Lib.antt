@@ -1,1 +1,5 @@
+pub mod Bits
+pub mod FreeCount
+pub mod LeastNumber
 pub mod NoneFree
+pub mod Rows

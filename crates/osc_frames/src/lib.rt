@@ -7,23 +7,31 @@ ghost use Rattle.std.specs.Prelude.{◌≡◌, ◌<◌, ◌≤◌, ◌↔◌, le
 ghost use Rattle.std.specs.Prelude.{Bool, Some};
 ghost use Rattle.osc_frames.specs.Free.{all_free, least_free, free_count, IsTaken, with_frame, without_frame};
 
+mod steps;
+mod words;
+
 use std::alloc::{AllocError, Global};
-use std::marker::Model;
+use std::marker::{Brand, Model};
+use std::sync::ledger::{Blank, Ledger};
+pub use steps::Steps;
+pub use words::{BitRow, BitWords, least};
 
 /// The frames of a machine, each free or taken.
 #[derive(Drop)]
 pub struct Frames {
-    free: Vec<bool>,
+    row: BitRow,
+    free: u32,
 }
 
 impl Model for Frames {
-    ghost use Rattle.std.specs.Prelude.{◌≤◌, List, Bool, length};
+    ghost use Rattle.std.specs.Prelude.{◌≡◌, ◌≤◌, List, Bool, length};
+    ghost use Rattle.osc_frames.specs.Free.{free_count};
 
     ghost Value = { List Bool };
 
-    ghost view = { λ frames. frames.free.items };
+    ghost view = { λ frames. frames.row };
 
-    ghost invariant = { λ frames. length frames.free.items ≤ 4096 };
+    ghost invariant = { λ frames. (length frames.row ≤ 4096) × (frames.free ≡ free_count frames.row) };
 }
 
 impl Frames {
@@ -32,9 +40,8 @@ impl Frames {
         requires { count ≤ 4096 }
         ensures { IfOk result (λ frames. frames ≡ all_free count) }
     {
-        Ok(Frames {
-            free: vec![in alloc; true; count as usize]?,
-        })
+        let row = BitRow::new(alloc, count, true)?;
+        Ok(Frames { row, free: count })
     }
 
     /// Takes the least free frame; None exactly where none is free.
@@ -44,9 +51,10 @@ impl Frames {
         ensures after { self.new ≡ without_frame self.old result }
         ensures count { length self.new ≡ length self.old }
     {
-        let frame = least(&self.free)?;
-        self.free[frame] = false;
-        Some(frame as u32)
+        let frame = least_of::<Brand>(&self.row, Blank::new(1))?;
+        self.row.drop_out(frame);
+        self.free -= 1;
+        Some(frame)
     }
 
     /// Makes a taken frame free.
@@ -54,14 +62,15 @@ impl Frames {
         requires { IsTaken self.old frame }
         ensures { self.new ≡ with_frame self.old frame }
     {
-        self.free[frame as usize] = true;
+        self.row.put(frame);
+        self.free += 1;
     }
 
     /// How many frames are free.
     pub fn free_count(&self) -> u32
         ensures { result ≡ free_count self.now }
     {
-        self.free.iter().filter(|free| **free).count() as u32
+        self.free
     }
 
     /// Whether a frame of the machine is free.
@@ -69,58 +78,21 @@ impl Frames {
         requires { frame < length self.now }
         ensures { slice_get self.now frame ≡ Some result }
     {
-        self.free[frame as usize]
+        self.row.contains(frame)
     }
 }
 
-// The place of the first true value.
-fn least(free: &[bool]) -> Option<usize>
-    ensures { result ≡ least_free free.now }
+// The least number of a row, for a caller that counts no steps.
+fn least_of<L: Ledger>(row: &BitRow, blank: Blank) -> Option<u32>
+    requires name { blank.name ≡ L.name }
+    requires parts { blank.parts ≡ L.parts }
+    requires some { 0 < blank.parts }
+    ensures least { result ≡ least_free row.now }
+    ensures none { IsNone result ↔ (free_count row.now ≡ 0) }
 {
-    free.iter().position(|free| *free)
+    let mut steps = Steps::new(blank);
+    least::<BitRow, L>(row, &mut steps)
 }
 
 #[cfg(test)]
-mod tests {
-    use super::*;
-    use std::test::Fail;
-
-    #[test]
-    fn takes_the_least_free_frame(rt: HostRuntime) -> Result<(), Fail> {
-        let mut frames = Frames::new(rt.alloc(), 64)?;
-        for frame in 0..64 {
-            assert_eq!(rt; frames.take(), Some(frame));
-        }
-        assert_eq!(rt; frames.take(), None);
-        assert_eq!(rt; frames.free_count(), 0);
-        Ok(())
-    }
-
-    fn give_back(frames: &mut Frames, frame: u32)
-        requires { frame < length frames.old }
-        ensures { length frames.new ≡ length frames.old }
-    {
-        if !frames.is_free(frame) {
-            frames.give(frame);
-        }
-    }
-
-    #[test]
-    fn gives_frames_back(rt: HostRuntime) -> Result<(), Fail> {
-        let mut frames = Frames::new(rt.alloc(), 4)?;
-        assert_eq!(rt; frames.take(), Some(0));
-        assert_eq!(rt; frames.take(), Some(1));
-        assert_eq!(rt; frames.take(), Some(2));
-        give_back(&mut frames, 1);
-        assert_eq!(rt; frames.free_count(), 2);
-        give_back(&mut frames, 0);
-        assert_eq!(rt; frames.free_count(), 3);
-        assert!(rt; frames.is_free(0));
-        assert!(rt; !frames.is_free(2));
-        assert_eq!(rt; frames.take(), Some(0));
-        assert_eq!(rt; frames.take(), Some(1));
-        assert_eq!(rt; frames.take(), Some(3));
-        assert_eq!(rt; frames.take(), None);
-        Ok(())
-    }
-}
+mod tests;
