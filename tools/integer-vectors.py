@@ -1,8 +1,10 @@
 #!/usr/bin/env python3
 """Makes the rows of crates/osc_int/src/tests.rt: instruction words as GNU as writes them, what the
 registers x5 and x6 hold, and what the instruction does then, by the RISC-V Unprivileged manual and
-Python's whole numbers. With the word "check" it compares them with the rows that stand there. It is
-skipped where there is no assembler for riscv64 (Debian: binutils-riscv64-linux-gnu)."""
+Python's whole numbers; and the rows of crates/osc_amo/src/tests.rt: an operation, a width, what stands
+in memory, the operand, what is stored, and what the register gets. With the word "check" it compares
+them with the rows that stand there. Those of osc_int are skipped where there is no assembler for
+riscv64 (Debian: binutils-riscv64-linux-gnu)."""
 import os
 import re
 import shutil
@@ -11,7 +13,9 @@ import sys
 import tempfile
 
 PREFIX = "riscv64-linux-gnu-"
-TESTS = os.path.join(os.path.dirname(__file__), "..", "crates", "osc_int", "src", "tests.rt")
+CRATES = os.path.join(os.path.dirname(__file__), "..", "crates")
+INT_TESTS = os.path.join(CRATES, "osc_int", "src", "tests.rt")
+AMO_TESTS = os.path.join(CRATES, "osc_amo", "src", "tests.rt")
 TOP = 2**63
 ALL = 2**64 - 1
 
@@ -234,6 +238,50 @@ flow("amoadd.w x7, x6, (x5)", PC, 64, TOP, "Atomic(64, LEAST)")
 flow("amoswap.d x7, x0, (x5)", PC, 64, TOP, "Atomic(64, 0)")
 
 
+# Atomic memory operations: in .w the upper halves do not count, and the register gets the sign.
+HIGH = 0x5A5A5A5A << 32
+EDGES = [
+    (1, 2),
+    (0, ALL),
+    (ALL, 0),
+    (ALL, ALL),
+    (TOP, TOP),
+    (TOP, TOP - 1),
+    (TOP - 1, TOP),
+    (TOP - 1, 1),
+    (0x7FFFFFFF, 1),
+    (0x80000000, 0x7FFFFFFF),
+    (0x7FFFFFFF, 0x80000000),
+    (0xFFFFFFFF, 1),
+    (2**32, 0xFFFFFFFF),
+    (HIGH + 0xF0F0F0F0, 0xFF00FF00),
+    (5, HIGH + 3),
+    (HIGH + 3, 5),
+]
+AMOS = {
+    "Add": lambda a, b, bits: a + b,
+    "Swap": lambda a, b, bits: b,
+    "Xor": lambda a, b, bits: a ^ b,
+    "Or": lambda a, b, bits: a | b,
+    "And": lambda a, b, bits: a & b,
+    "Min": lambda a, b, bits: min(a, b, key=lambda n: signed(n, bits)),
+    "Max": lambda a, b, bits: max(a, b, key=lambda n: signed(n, bits)),
+    "Minu": lambda a, b, bits: min(a, b),
+    "Maxu": lambda a, b, bits: max(a, b),
+}
+
+
+def amo_rows():
+    rows = []
+    for op, meaning in AMOS.items():
+        for width, bits in [("W", 32), ("D", 64)]:
+            for a, b in EDGES:
+                stored = meaning(a % 2**bits, b % 2**bits, bits) % 2**bits
+                fields = ", ".join(map(shown, [a, b, stored, signed(a, bits)]))
+                rows.append(f"({op}, {width}, {fields})")
+    return rows
+
+
 def words_of(sources):
     with tempfile.TemporaryDirectory() as folder:
         source, obj, out = (os.path.join(folder, name) for name in ["rows.s", "rows.o", "rows.bin"])
@@ -246,10 +294,7 @@ def words_of(sources):
     return [int.from_bytes(code[i : i + 4], "little") for i in range(0, len(code), 4)]
 
 
-def main():
-    if shutil.which(PREFIX + "as") is None:
-        print(f"skipped: no {PREFIX}as")
-        return 0
+def int_rows():
     rows = []
     words = words_of([row[0] for row in values + flows])
     for word_, (source, *numbers) in zip(words, values):
@@ -258,15 +303,32 @@ def main():
     for word_, (source, pc, a, b, want) in zip(words[len(values) :], flows):
         fields = ", ".join(map(shown, [pc, a, b]))
         rows.append(f'("{source.split()[0]}", {word_:#010x}, [{fields}], {want})')
-    if sys.argv[1:] != ["check"]:
-        print("\n".join(f"    {row}," for row in rows))
-        print(f"{len(values)} and {len(flows)} rows", file=sys.stderr)
-        return 0
-    # rt fmt breaks a long row over several lines
-    text = re.sub(r",\)", ")", re.sub(r"\s", "", open(TESTS).read()))
-    missing = [row for row in rows if row.replace(" ", "") + "," not in text]
-    print("\n".join(missing) if missing else f"same: {len(rows)} rows")
-    return 1 if missing else 0
+    return rows
+
+
+def missing_in(path, rows):
+    """The rows that do not stand in a file; rt fmt breaks a long row over several lines."""
+    text = re.sub(r",\)", ")", re.sub(r"\s", "", open(path).read()))
+    return [row for row in rows if row.replace(" ", "") + "," not in text]
+
+
+def main():
+    tables = [(AMO_TESTS, amo_rows())]
+    if shutil.which(PREFIX + "as") is None:
+        print(f"skipped for osc_int: no {PREFIX}as")
+    else:
+        tables.insert(0, (INT_TESTS, int_rows()))
+    failed = 0
+    for path, rows in tables:
+        name = os.path.basename(os.path.dirname(os.path.dirname(path)))
+        if sys.argv[1:] != ["check"]:
+            print("\n".join(f"    {row}," for row in rows))
+            print(f"{name}: {len(rows)} rows", file=sys.stderr)
+            continue
+        missing = missing_in(path, rows)
+        failed += len(missing)
+        print("\n".join(missing) if missing else f"{name} same: {len(rows)} rows")
+    return 1 if failed else 0
 
 
 sys.exit(main())

@@ -1,0 +1,1 @@
+pub use Rattle.osc_calls.specs.Lines

@@ -1,0 +1,2 @@
+pub use Rattle.osc_calls.specs.Threads
+pub mod Lives
