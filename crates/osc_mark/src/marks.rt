@@ -7,11 +7,9 @@ ghost use Rattle.osc_mark.specs.Grants.{AreMarked, left, lives, no_grants, numbe
 use crate::leaves::{FIRST_LEAF, add_pages, drop_pages};
 use crate::looks;
 use osc_space::{ObjectFact, ObjectState};
+use osc_word::address_map::FIRST_SHADOW_PAGE;
 use std::alloc::{AllocError, Global};
 use std::marker::Model;
-
-/// The page at 0x10_0000_0000.
-const FIRST_PAGE: u64 = 0x100_0000;
 
 /// The shadow pages of one process and the objects that they were granted to. A page is granted
 /// once: nothing lowers the mark. All room is taken by `new`.
@@ -62,7 +60,7 @@ impl Marks {
         ensures page { result ≡ next_page self.now.objects }
         ensures valid { AreMarked self.now }
     {
-        FIRST_PAGE + u64::from(self.granted)
+        FIRST_SHADOW_PAGE + u64::from(self.granted)
     }
 
     /// The number of the next object.
