@@ -1,11 +1,12 @@
 -- What is asked of the frames that are left stays true when another frame changes.
-use Rattle.std.proofs.Common.{ℕ, suc, ◌≡◌, ◌≢◌, ◌<◌, ◌+◌, Bool, true, false, cond, List, [], ◌∷◌, arith, refl, sym, ◌∙◌, length, get_or, set, subst}
+use Rattle.std.proofs.Common.{ℕ, suc, ◌≡◌, ◌≢◌, ◌+◌, Bool, true, false, cond, List, [], ◌∷◌, arith, refl, ◌∙◌, length, get_or, set, subst}
 use Rattle.std.specs.Prelude.{All}
 use Rattle.std.proofs.lemmas.List.{get_or-set_other, length-set}
 use Rattle.osc_frames.specs.Free.{IsTaken}
-use Rattle.osc_space.specs.Share.{Regions, RegionsAndFree, holders, hold, drop_frame, let_regions_go}
-use Rattle.osc_share.specs.Holding.{AreDifferent, CanJoin, IsHeld, regions_and_free}
-use Rattle.std.specs.Prelude.{slice_get, ◌==◌, ◌-◌}
+use Rattle.osc_space.specs.Share.{Regions, RegionsAndFree, holders, hold, drop_frame, let_regions_go, join, leave, shared_frames}
+use Rattle.osc_paging.specs.KeptTables.{KeptTables}
+use Rattle.osc_share.specs.Holding.{AreDifferent, CanJoin, IsHeld}
+use Rattle.std.specs.Prelude.{◌==◌, ◌-◌}
 use Rattle.std.proofs.lemmas.Bool.Decides.{nat_tests}
 use Rattle.osc_paging.proofs.WordLists.{slice_get-set}
 
@@ -70,3 +71,33 @@ leaves_one end r frame frames all e left rest = record {
   left = subst (λ a. let_regions_go a r ≡ end) e left;
   rest = still_leave frame (holders r.regions frame) frames r (subst (λ a. CanLeave r a) e rest);
 }
+
+-- ---- the machine keeps its frames
+length_hold : (frames : List ℕ) (regions : Regions) → length (hold frames regions) ≡ length regions
+length_hold [] regions = refl
+length_hold (frame ∷ frames) regions = length_hold frames (set regions frame (holders regions frame + 1)) ∙ length-set regions frame (holders regions frame + 1)
+
+pub length_join : (child : KeptTables) (regions : Regions) → length (join child regions) ≡ length regions
+unfolding join
+length_join child regions = length_hold (shared_frames child) regions
+
+pub record SameLengths (r s : RegionsAndFree) : Type 0 where
+  pub regions : length s.regions ≡ length r.regions
+  pub free : length s.free ≡ length r.free
+
+length_freed : (free : List Bool) (frame : ℕ) (b : Bool) → length (cond b (set free frame true) free) ≡ length free
+length_freed free frame false = refl
+length_freed free frame true = length-set free frame true
+
+lengths_let_go : (frames : List ℕ) (r : RegionsAndFree) → SameLengths r (let_regions_go frames r)
+lengths_let_go [] r = record { regions = refl; free = refl }
+lengths_let_go (frame ∷ frames) r =
+    let on = lengths_let_go frames (drop_frame frame (holders r.regions frame) r) in
+    record {
+      regions = on.regions ∙ length-set r.regions frame (holders r.regions frame - 1);
+      free = on.free ∙ length_freed r.free frame (holders r.regions frame - 1 == 0);
+    }
+
+pub lengths_leave : (t : KeptTables) (r : RegionsAndFree) → SameLengths r (leave t r)
+unfolding leave
+lengths_leave t r = lengths_let_go (shared_frames t) r

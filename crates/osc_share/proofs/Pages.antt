@@ -8,7 +8,7 @@ use Rattle.osc_sv39.specs.declared.entries.Mapping.{Mapping}
 use Rattle.osc_paging.specs.declared.Mapped.{Mapped}
 use Rattle.osc_paging.specs.KeptTables.{KeptTables, mapping_at, mapping_of}
 use Rattle.osc_tables.specs.Inside.{IsTop, AscendFrom}
-use Rattle.osc_tables.specs.Calls.{IsNextPage, IsOrdered, NoneFrom}
+use Rattle.osc_tables.specs.Calls.{IsNextPage, IsOrdered}
 use Rattle.osc_tables.proofs.KeptFacts.{at_top}
 use Rattle.osc_share.specs.Walk.{IsFirst, pages_from}
 

@@ -1,7 +1,5 @@
 -- The next page is the first one, where it is no shadow page.
-use Rattle.std.proofs.Common.{◌≡◌, ◌≤◌, arith, Some}
-use Rattle.std.proofs.lemmas.Bool.Decides.{nat_tests}
-use Rattle.osc_word.specs.AddressMap.{first_shadow_page}
+use Rattle.std.proofs.Common.{◌≡◌, arith, Some}
 use Rattle.osc_paging.specs.KeptTables.{mapping_of}
 use Rattle.osc_share.proofs.Pages.{first_page, no_page_left, none_before}
 use Rattle.osc_share.proofs.first_from.Goals as goal

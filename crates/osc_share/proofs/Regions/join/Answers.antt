@@ -1,5 +1,5 @@
 -- One page more is held.
-use Rattle.std.proofs.Common.{ℕ, ◌≡◌, ◌+◌, ◌∷◌, refl}
+use Rattle.std.proofs.Common.{◌≡◌, ◌+◌, ◌∷◌, refl}
 use Rattle.osc_space.specs.Share.{hold, shared_frames}
 use Rattle.osc_share.specs.Walk.{frames_from}
 use Rattle.osc_share.proofs.Holds.{joins_one}

@@ -1,5 +1,5 @@
 -- The pages from here on are still to be held.
-use Rattle.std.proofs.Common.{◌≡◌, ◌-◌, ℕ, All}
+use Rattle.std.proofs.Common.{◌≡◌, ◌-◌, All}
 use Rattle.osc_word.specs.AddressMap.{first_shadow_page}
 use Rattle.osc_space.specs.Share.{hold, shared_frames}
 use Rattle.osc_share.specs.Holding.{AreDifferent, CanJoin}

@@ -1,5 +1,5 @@
 -- One page more is let go.
-use Rattle.std.proofs.Common.{ℕ, ◌≡◌, ◌+◌, ◌∷◌, refl}
+use Rattle.std.proofs.Common.{◌≡◌, ◌+◌, ◌∷◌, refl}
 use Rattle.osc_space.specs.Share.{let_regions_go, shared_frames}
 use Rattle.osc_share.specs.Holding.{regions_and_free}
 use Rattle.osc_share.specs.Walk.{frames_from}

@@ -1,5 +1,5 @@
 -- The pages from here on are still to be let go.
-use Rattle.std.proofs.Common.{◌≡◌, ◌-◌, ℕ}
+use Rattle.std.proofs.Common.{◌≡◌, ◌-◌}
 use Rattle.osc_word.specs.AddressMap.{first_shadow_page}
 use Rattle.osc_space.specs.Share.{let_regions_go, shared_frames}
 use Rattle.osc_share.specs.Holding.{regions_and_free}
