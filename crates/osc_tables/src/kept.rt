@@ -13,7 +13,7 @@ ghost use Rattle.osc_paging.specs.KeptTables.{frame_of, mapping_at, piece_of, ro
 ghost use Rattle.osc_word.specs.declared.job_list.Job.{Job};
 ghost use Rattle.osc_paging.specs.TableChanges.{frames_given, give_leaves, link, link_all, map_page, opened, put_job, reclaim, renamed};
 ghost use Rattle.osc_paging.specs.TableChanges.{table_frame, unmap_page, with_table, without_page, without_table, zero_job};
-ghost use Rattle.osc_tables.specs.Calls.{AllCanonical, AllTaken, CanRename, HasTaken, IsClosed, IsEmptyLeaf, IsFresh, MapsTo, IsNextPage, IsOpen, NoneFrom, changed, left};
+ghost use Rattle.osc_tables.specs.Calls.{AllCanonical, AllTaken, CanRename, HasTaken, IsClosed, IsEmptyLeaf, IsFresh, MapsTo, IsNextPage, IsOpen, IsOrdered, NoneFrom, changed, left};
 ghost use Rattle.osc_tables.specs.Inside.{Differ, IsTop, LieWithin};
 ghost use Rattle.osc_tables.specs.Places.{place_below};
 
@@ -203,7 +203,8 @@ impl Tables {
 
     /// The least mapped page at or above another; None exactly where there is none.
     pub fn next_page(&self, from: u64) -> Option<u64>
-        ensures { MatchOption result (NoneFrom self.now from) (IsNextPage self.now from) }
+        ensures next { MatchOption result (NoneFrom self.now from) (IsNextPage self.now from) }
+        ensures order { IsOrdered self.now }
     {
         let number = least_from(from, self.top)?;
         let at = place_for(&self.pages, number);

@@ -11,16 +11,16 @@ page_of-requires-clause-range c =
     let within : c.place_for-at.result < length c.self.inside.pages.items = omega arith in
     next_page_small _ c.self.inside.pages.items c.place_for-at.result c.index.result.now c.self.invariant.0.pages_lie within c.index.ensures
 
-pub returns-then-at-len : goal.returns-then-at-len
-returns-then-at-len c =
+pub returns-then-at-len-clause-next : goal.returns-then-at-len-clause-next
+returns-then-at-len-clause-next c =
     let long = rw c.deref.ensures.value at c.deref.ensures.len in
     let within : c.place_for-at.result < length c.self.inside.pages.items = omega arith in
     let place = rw c.deref.ensures.value at c.place_for-at.ensures.place in
     rw (← c.self.view_is, c.page_of.ensures)
     (next_page_found _ c.args.from c.in_ok-number.number c.place_for-at.result c.index.result.now c.self.invariant.0.range c.self.invariant.0.ascend c.self.invariant.0.pages_lie (sym c.least_from.ensures ∙ c.in_ok-number.was) place within c.index.ensures)
 
-pub returns-else-at-len : goal.returns-else-at-len
-returns-else-at-len c =
+pub returns-else-at-len-clause-next : goal.returns-else-at-len-clause-next
+returns-else-at-len-clause-next c =
     let long = rw c.deref.ensures.value at c.deref.ensures.len in
     let place = rw c.deref.ensures.value at c.place_for-at.ensures.place in
     let past : length c.self.inside.pages.items ≤ place_for c.in_ok-number.number c.self.inside.pages.items = omega arith in
