@@ -1,6 +1,6 @@
 //! The free frames of a machine. `take` gives the least free one, `give` makes one free again.
 //!
-//! Clauses see `Frames` as a list with a truth value for each frame: true where it is free.
+//! Clauses see `Frames` as a list with a truth value for each frame: true where it is free. No call's cost grows with the number of frames.
 #![tactic(auto)]
 
 ghost use Rattle.std.specs.Prelude.{◌≡◌, ◌<◌, ◌≤◌, ◌↔◌, length, slice_get, IfOk, IsNone};

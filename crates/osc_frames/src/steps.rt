@@ -5,7 +5,7 @@ ghost use Rattle.std.specs.Prelude.{◌≡◌, ◌+◌, ◌<◌};
 use std::marker::Model;
 use std::sync::ledger::{Blank, Book, Ledger, Share};
 
-/// How many steps were taken. Only a step itself changes it.
+/// How many steps were taken. Only `tick` changes it, and it runs no code.
 #[derive(Drop)]
 pub struct Steps<L: Ledger> {
     book: Book<L>,

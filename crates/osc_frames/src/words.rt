@@ -1,7 +1,6 @@
 //! Sets of numbers below 4096 as bits of words, and their least number.
 
-ghost use Rattle.std.specs.Prelude.{◌≡◌, ◌↔◌, ◌+◌, ◌*◌, ◌<◌, ◌≤◌, Bool, List, Some, IfOk, IfSome, IsNone, length, replicate, slice_get, slice_index, slice_set, true, false, if◌then◌else◌, ◌==◌, nat_lt};
-ghost use Rattle.std.specs.Prelude.{ℕ};
+ghost use Rattle.std.specs.Prelude.{◌≡◌, ◌↔◌, ◌+◌, ◌*◌, ◌<◌, ◌≤◌, Bool, List, Some, IfOk, IfSome, IsNone, length, replicate, slice_get, slice_index, slice_set, true, false, if◌then◌else◌, ◌==◌, nat_lt, ℕ};
 ghost use Rattle.std.specs.Int.{bit_at};
 ghost use Rattle.osc_frames.specs.Free.{free_count, least_free};
 ghost use Rattle.osc_frames.specs.Words.{AreBelow, IsGroup, IsTop, digit};
