@@ -1,14 +1,13 @@
 -- What is asked of the frames that are left stays true when another frame changes.
 use Rattle.std.proofs.Common.{ℕ, suc, ◌≡◌, ◌≢◌, ◌+◌, Bool, true, false, cond, List, [], ◌∷◌, arith, refl, ◌∙◌, length, get_or, set, subst}
-use Rattle.std.specs.Prelude.{All}
+use Rattle.std.specs.Prelude.{◌==◌, ◌-◌, All}
+use Rattle.std.proofs.lemmas.Bool.Decides.{nat_tests}
 use Rattle.std.proofs.lemmas.List.{get_or-set_other, length-set}
 use Rattle.osc_frames.specs.Free.{IsTaken}
 use Rattle.osc_space.specs.Share.{Regions, RegionsAndFree, holders, hold, drop_frame, let_regions_go, join, leave, shared_frames}
 use Rattle.osc_paging.specs.KeptTables.{KeptTables}
-use Rattle.osc_share.specs.Holding.{AreDifferent, CanJoin, IsHeld}
-use Rattle.std.specs.Prelude.{◌==◌, ◌-◌}
-use Rattle.std.proofs.lemmas.Bool.Decides.{nat_tests}
 use Rattle.osc_paging.proofs.WordLists.{slice_get-set}
+use Rattle.osc_share.specs.Holding.{AreDifferent, CanJoin, IsHeld}
 
 pub first_of : (P : ℕ → Type 0) (frame : ℕ) (frames : List ℕ) → All P (frame ∷ frames) → P frame
 first_of P frame frames h = h 0 0 (omega arith)

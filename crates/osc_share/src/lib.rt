@@ -75,8 +75,8 @@ impl Regions {
         self.counts[frame as usize] += 1;
     }
 
-    #[tactic(auto, unfolding(osc_space::specs::Share::join))]
     /// A child holds the frames of its shared pages once more, when its tables were copied.
+    #[tactic(auto, unfolding(osc_space::specs::Share::join))]
     pub fn join(&mut self, child: &Tables)
         requires different { AreDifferent (shared_frames child.now) }
         requires held { All (CanJoin self.old) (shared_frames child.now) }
@@ -103,9 +103,9 @@ impl Regions {
         }
     }
 
-    #[tactic(auto, unfolding(osc_space::specs::Share::leave))]
     /// A process that ends holds the frames of its shared pages no more. Those that nobody holds then
     /// are free.
+    #[tactic(auto, unfolding(osc_space::specs::Share::leave))]
     pub fn leave(&mut self, tables: &Tables, frames: &mut Frames)
         requires different { AreDifferent (shared_frames tables.now) }
         requires held { All (IsHeld self.old) (shared_frames tables.now) }
