@@ -235,6 +235,7 @@ needed-is levels image l = of (which l)
   where
     which : IsLevels levels → (levels ≡ 3) ⊎ (levels ≡ 4)
     which l = grind arith
+
     of : (levels ≡ 3) ⊎ (levels ≡ 4) → needed_frames levels image
         ≡ length (pages image) + 16 + levels + (different (tables_of 262144 (pages image)) + different (tables_of 512 (pages image)))
     of (inl three) = rw three (needed-3 image)
