@@ -1,0 +1,270 @@
+-- What each change of a process's memory does to its frames: it takes free ones and gives its own.
+use Rattle.std.proofs.Common.{ℕ, zero, suc, ◌+◌, ◌/◌, ◌≡◌, ◌≢◌, ◌<◌, ◌≤◌, ◌==◌, nat_lt, ◌&&◌, ◌||◌, Bool, true, false, not, cond, Option, Some, None, is_some, List, [], ◌∷◌, ◌++◌, length, map, filter, position, slice_get, slice_set, arith, refl, ap, sym, ◌∙◌, subst}
+use Rattle.std.specs.List.{list_any, range_with_len}
+use Rattle.std.proofs.lemmas.Bool.Decides.{nat_tests}
+use Rattle.std.proofs.lemmas.List.{map-append}
+use Rattle.osc_word.specs.AddressMap.{is_image_or_stack, is_shared, first_shadow_page}
+use Rattle.osc_sv39.specs.declared.entries.Mapping.{Mapping}
+use Rattle.osc_sv39.specs.Walk.{piece}
+use Rattle.osc_slot.specs.declared.HeapPage.{HeapPage}
+use Rattle.osc_slot.specs.Heap.{Heap, Backing, back_by, back}
+use Rattle.osc_slot.proofs.Backing.{length-set}
+use Rattle.osc_paging.specs.declared.TableFrame.{TableFrame}
+use Rattle.osc_paging.specs.declared.Mapped.{Mapped}
+use Rattle.osc_paging.specs.KeptTables.{KeptTables, frame_of}
+use Rattle.osc_paging.specs.TableChanges.{Changed, linked, link, link_all, leaf_put, put_leaf, map_page, map_pages, leaf_cleared, unmap_page, unlinked, reclaim, table_frame, with_page, without_page, without_table}
+use Rattle.osc_paging.specs.Agree.{Apart}
+use Rattle.osc_paging.proofs.Kept.{position_passes}
+use Rattle.osc_paging.proofs.TableLists.{apart-without_table, apart-with_table}
+use Rattle.osc_space.specs.Space.{Space}
+use Rattle.osc_space.specs.Fork.{table_frame_of, heap_frame_of, frame_of_page, image_frames, frames_owned}
+use Rattle.osc_space.specs.Share.{shared_pages, shared_frames}
+use Rattle.osc_space.specs.Free.{unmap_all, reclaim_all}
+use Rattle.osc_space.specs.Agree.{AreApart, AllTaken, frames_of}
+use Rattle.osc_parts.specs.Frames.{one_at, among, one_where, vacant, frames_held, Trades}
+use Rattle.osc_parts.proofs.Counts.{among-append, apart_once, once_apart, taken_at, all_taken, vacant_take, table_more, table_less, block_page_more, page_more, page_less}
+
+-- ---- the parts of a process that hold frames
+abbrev pub held_in : ℕ → List TableFrame → List HeapPage → List ℕ → List TableFrame → ℕ
+held_in f tables pages image aside =
+    among f (map table_frame_of tables) + among f (map heap_frame_of pages) + among f image + among f (map table_frame_of aside)
+
+pub owned_is : (f : ℕ) (s : Space) → among f (frames_owned s) ≡ among f (map table_frame_of s.tables.tables) + among f (map heap_frame_of s.heap.pages) + among f (image_frames s.tables)
+owned_is f s =
+    let a : among f (frames_owned s) ≡ among f (map table_frame_of s.tables.tables ++ map heap_frame_of s.heap.pages) + among f (image_frames s.tables) =
+    among-append f (map table_frame_of s.tables.tables ++ map heap_frame_of s.heap.pages) (image_frames s.tables) in
+    let b = among-append f (map table_frame_of s.tables.tables) (map heap_frame_of s.heap.pages) in
+    omega (arith, a, b)
+
+pub held_is : (f : ℕ) (s : Space) → among f (frames_held s) ≡ held_in f s.tables.tables s.heap.pages (image_frames s.tables) s.tables.aside
+held_is f s =
+    let a : among f (frames_held s) ≡ among f (frames_owned s) + among f (map table_frame_of s.tables.aside) = among-append f (frames_owned s) (map table_frame_of s.tables.aside) in
+    let b = owned_is f s in
+    omega (arith, a, b)
+
+-- ---- one after another
+pub trades_none : (s : Space) (free : List Bool) → Trades s free s free
+trades_none s free = record { count = refl; each = λ f. refl; shared = refl }
+
+pub trades_both : (s t u : Space) (free between after : List Bool) → Trades s free t between → Trades t between u after → Trades s free u after
+trades_both s t u free between after a b = record {
+  count = b.count ∙ a.count;
+  each = λ f. b.each f ∙ a.each f;
+  shared = b.shared ∙ a.shared;
+}
+
+-- a memory with the tables of a change
+abbrev pub over : Space → KeptTables → Space
+over s t = record s { tables = t }
+
+abbrev pub TradesIn : Space → Changed → Changed → Type 0
+TradesIn s c d = Trades (over s c.tables) c.free (over s d.tables) d.free
+
+-- ---- tables
+linked-trades : (s : Space) (l n : ℕ) (a b p : Option ℕ) (c : Changed) → position (λ b. b) c.free ≡ p → TradesIn s c (linked l n a b p c)
+linked-trades s l n (Some g) b p c e = trades_none (over s c.tables) c.free
+linked-trades s l n None None p c e = trades_none (over s c.tables) c.free
+linked-trades s l n None (Some parent) None c e = trades_none (over s c.tables) c.free
+linked-trades s l n None (Some parent) (Some g) c e = record {
+  count = length-set c.free g false;
+  each = λ f. (let a = held_is f (over s c.tables) in
+      let b = held_is f (over s (linked l n None (Some parent) (Some g) c).tables) in
+      let m = table_more f (table_frame l n g) c.tables.tables in
+      let v = vacant_take c.free g f (position_passes c.free g e) in
+      omega (arith, a, b, m, v));
+  shared = refl;
+}
+
+link-trades : (s : Space) (l n : ℕ) (c : Changed) → TradesIn s c (link l n c)
+link-trades s l n c = linked-trades s l n (frame_of c.tables.tables l n) (frame_of c.tables.tables (suc l) (n / 512)) (position (λ b. b) c.free) c refl
+
+link_all-trades : (s : Space) (l n : ℕ) (c : Changed) → TradesIn s c (link_all l n c)
+unfolding link_all
+link_all-trades s zero n c = trades_none (over s c.tables) c.free
+link_all-trades s (suc l) n c =
+    trades_both (over s c.tables) (over s (link l (piece (suc l) n) c).tables) (over s (link_all l n (link l (piece (suc l) n) c)).tables)
+    c.free (link l (piece (suc l) n) c).free (link_all l n (link l (piece (suc l) n) c)).free
+    (link-trades s l (piece (suc l) n) c) (link_all-trades s l n (link l (piece (suc l) n) c))
+
+-- the pages of other ranges stay
+pub record SamePages (t u : KeptTables) : Type 0 where
+  pub image : image_frames u ≡ image_frames t
+  pub shared : shared_pages u ≡ shared_pages t
+
+pub page_put : (n : ℕ) (m : Mapping) (t : KeptTables) → first_shadow_page ≤ n → SamePages t (record t { pages = with_page n m t.pages })
+page_put n m t l = record {
+  image = ap (map frame_of_page) (page_more is_image_or_stack n m t.pages (grind (arith, nat_tests, l)));
+  shared = page_more is_shared n m t.pages (grind (arith, nat_tests, l));
+}
+
+pub page_taken : (n : ℕ) (t : KeptTables) → first_shadow_page ≤ n → SamePages t (record t { pages = without_page n t.pages })
+page_taken n t l = record {
+  image = ap (map frame_of_page) (page_less is_image_or_stack n t.pages (grind (arith, nat_tests, l)));
+  shared = page_less is_shared n t.pages (grind (arith, nat_tests, l));
+}
+
+-- where tables and leaves aside stay
+pub same_trades : (s : Space) (t u : KeptTables) (free : List Bool) → SamePages t u → u.tables ≡ t.tables → u.aside ≡ t.aside → Trades (over s t) free (over s u) free
+same_trades s t u free p e g = record {
+  count = refl;
+  each = λ f. (let a = held_is f (over s t) in
+      let b = held_is f (over s u) in
+      let x = ap (λ fs. among f fs) p.image in
+      let y = ap (λ ts. among f (map table_frame_of ts)) e in
+      let z = ap (λ ts. among f (map table_frame_of ts)) g in
+      omega (arith, a, b, x, y, z));
+  shared = p.shared;
+}
+
+put-trades : (s : Space) (n : ℕ) (m : Mapping) (x : Option ℕ) (c : Changed) → first_shadow_page ≤ n → TradesIn s c (leaf_put n m x c)
+put-trades s n m None c l = trades_none (over s c.tables) c.free
+put-trades s n m (Some t) c l = same_trades s c.tables (record (c.tables) { pages = with_page n m c.tables.pages }) c.free (page_put n m c.tables l) refl refl
+
+pub map_page-trades : (s : Space) (n : ℕ) (m : Mapping) (c : Changed) → first_shadow_page ≤ n → TradesIn s c (map_page n m c)
+map_page-trades s n m c l =
+    let d = link_all c.tables.top n c in
+    trades_both (over s c.tables) (over s d.tables) (over s (map_page n m c).tables) c.free d.free (map_page n m c).free
+    (link_all-trades s c.tables.top n c) (put-trades s n m (frame_of d.tables.tables 0 (n / 512)) d l)
+
+pub map_pages-trades : (s : Space) (ms : List Mapping) (n : ℕ) (c : Changed) → first_shadow_page ≤ n → TradesIn s c (map_pages n ms c)
+map_pages-trades s [] n c l = trades_none (over s c.tables) c.free
+map_pages-trades s (m ∷ ms) n c l =
+    let d = map_page n m c in
+    trades_both (over s c.tables) (over s d.tables) (over s (map_pages (n + 1) ms d).tables) c.free d.free (map_pages (n + 1) ms d).free
+    (map_page-trades s n m c l) (map_pages-trades s ms (n + 1) d (omega (arith, l)))
+
+-- ---- unmapping
+cleared-trades : (s : Space) (n : ℕ) (x : Option ℕ) (c : Changed) → TradesIn s c (leaf_cleared n x c)
+cleared-trades s n None c = trades_none (over s c.tables) c.free
+cleared-trades s n (Some t) c = trades_none (over s c.tables) c.free
+
+pub unmap_page-trades : (s : Space) (n : ℕ) (c : Changed) → first_shadow_page ≤ n → TradesIn s c (unmap_page n c)
+unmap_page-trades s n c l =
+    let d : Changed = record c { tables = record (c.tables) { pages = without_page n c.tables.pages } } in
+    trades_both (over s c.tables) (over s d.tables) (over s (unmap_page n c).tables) c.free d.free (unmap_page n c).free
+    (same_trades s c.tables d.tables c.free (page_taken n c.tables l) refl refl)
+    (cleared-trades s n (frame_of c.tables.tables 0 (n / 512)) d)
+
+pub unmap_all-trades : (s : Space) (count first : ℕ) (c : Changed) → first_shadow_page ≤ first → TradesIn s c (unmap_all (range_with_len first count) c)
+unmap_all-trades s zero first c l = trades_none (over s c.tables) c.free
+unmap_all-trades s (suc count) first c l =
+    let d = unmap_page first c in
+    let e = unmap_all (range_with_len (first + 1) count) d in
+    trades_both (over s c.tables) (over s d.tables) (over s e.tables) c.free d.free e.free
+    (unmap_page-trades s first c l) (unmap_all-trades s count (first + 1) d (omega (arith, l)))
+
+-- ---- leaf tables that are given up
+unlinked-trades : (s : Space) (leaf : ℕ) (x y : Option ℕ) (c : Changed) → Apart c.tables.tables → frame_of c.tables.tables 0 leaf ≡ x → TradesIn s c (unlinked leaf x y c)
+unlinked-trades s leaf None y c a e = trades_none (over s c.tables) c.free
+unlinked-trades s leaf (Some g) None c a e = trades_none (over s c.tables) c.free
+unlinked-trades s leaf (Some g) (Some p) c a e = record {
+  count = refl;
+  each = λ f. (let q = held_is f (over s c.tables) in
+      let r = held_is f (over s (unlinked leaf (Some g) (Some p) c).tables) in
+      let m = table_less f 0 leaf g c.tables.tables a e in
+      let v = ap (λ fs. among f fs) (map-append table_frame_of c.tables.aside (table_frame 0 leaf g ∷ [])) in
+      let w = among-append f (map table_frame_of c.tables.aside) (g ∷ []) in
+      omega (arith, q, r, m, v, w));
+  shared = refl;
+}
+
+unlinked-apart : (leaf : ℕ) (x y : Option ℕ) (c : Changed) → Apart c.tables.tables → Apart (unlinked leaf x y c).tables.tables
+unlinked-apart leaf None y c a = a
+unlinked-apart leaf (Some g) None c a = a
+unlinked-apart leaf (Some g) (Some p) c a = apart-without_table c.tables.tables 0 leaf a
+
+pub reclaim_all-trades : (s : Space) (leaves : List ℕ) (c : Changed) → Apart c.tables.tables → TradesIn s c (reclaim_all leaves c)
+reclaim_all-trades s [] c a = trades_none (over s c.tables) c.free
+reclaim_all-trades s (leaf ∷ leaves) c a =
+    let x = frame_of c.tables.tables 0 leaf in
+    let y = frame_of c.tables.tables 1 (leaf / 512) in
+    let d = reclaim leaf c in
+    trades_both (over s c.tables) (over s d.tables) (over s (reclaim_all leaves d).tables) c.free d.free (reclaim_all leaves d).free
+    (unlinked-trades s leaf x y c a refl) (reclaim_all-trades s leaves d (unlinked-apart leaf x y c a))
+
+-- ---- pages of blocks
+abbrev pub with_pages : Space → List HeapPage → Space
+with_pages s pages = record s { heap = record (s.heap) { pages = pages } }
+
+abbrev pub TradesBlocks : Space → Backing → Backing → Type 0
+TradesBlocks s b c = Trades (with_pages s b.pages) b.free (with_pages s c.pages) c.free
+
+back_by-trades : (s : Space) (page : ℕ) (x : Option ℕ) (b : Backing) → position (λ (f : Bool). f) b.free ≡ x → TradesBlocks s b (back_by page x b)
+back_by-trades s page None b e = trades_none (with_pages s b.pages) b.free
+back_by-trades s page (Some g) b e = record {
+  count = length-set b.free g false;
+  each = λ f. (let p = held_is f (with_pages s b.pages) in
+      let q = held_is f (with_pages s (back_by page (Some g) b).pages) in
+      let m = block_page_more f (record { page = page; frame = g }) b.pages in
+      let v = vacant_take b.free g f (position_passes b.free g e) in
+      omega (arith, p, q, m, v));
+  shared = refl;
+}
+
+pub back-trades : (s : Space) (count page : ℕ) (b : Backing) → TradesBlocks s b (back count page b)
+unfolding back
+back-trades s zero page b = trades_none (with_pages s b.pages) b.free
+back-trades s (suc count) page b =
+    let c = back_by page (position (λ (f : Bool). f) b.free) b in
+    trades_both (with_pages s b.pages) (with_pages s c.pages) (with_pages s (back count (page + 1) c).pages) b.free c.free (back count (page + 1) c).free
+    (back_by-trades s page (position (λ (f : Bool). f) b.free) b refl) (back-trades s count (page + 1) c)
+
+-- ---- what a change that trades leaves: its frames are apart and taken
+pub record FramesFit (s : Space) (free : List Bool) : Type 0 where
+  pub aside : s.tables.aside ≡ []
+  pub apart : AreApart (frames_of s)
+  pub taken : AllTaken free (frames_of s)
+
+pub vacant_once : (free : List Bool) (f : ℕ) → vacant free f ≤ 1
+vacant_once free f = go (slice_get free f)
+  where
+    go : (x : Option Bool) → one_where x ≤ 1
+    go (Some true) = omega arith
+    go (Some false) = omega arith
+    go None = omega arith
+
+there : (free after : List Bool) (f : ℕ) (b : Bool) → slice_get free f ≡ Some b → length after ≡ length free → vacant after f ≡ 0 → slice_get after f ≡ Some false
+there [] after f b e l v = absurd (let z : ⊥ = grind (arith, e) in z)
+there (x ∷ free) [] f b e l v = absurd (omega arith)
+there (x ∷ free) (true ∷ after) zero b e l v = absurd (let z : ⊥ = omega (arith, v) in z)
+there (x ∷ free) (false ∷ after) zero b e l v = refl
+there (x ∷ free) (y ∷ after) (suc f) b e l v = there free after f b e (omega (arith, l)) v
+
+vacant_there : (free : List Bool) (f : ℕ) → 0 < vacant free f → slice_get free f ≡ Some true
+vacant_there free f l = go (slice_get free f) l
+  where
+    go : (x : Option Bool) → 0 < one_where x → x ≡ Some true
+    go (Some true) m = refl
+    go (Some false) m = absurd (omega arith)
+    go None m = absurd (omega arith)
+
+no_more : (x : ℕ) (free : List Bool) (f : ℕ) → (0 < x → slice_get free f ≡ Some false) → x ≤ 1 → x + vacant free f ≤ 1
+no_more zero free f t l = let v = vacant_once free f in omega (arith, v)
+no_more (suc x) free f t l = let v : vacant free f ≡ 0 = ap one_where (t (omega arith)) in omega (arith, v, l)
+
+pub fit_after : (s t : Space) (free after : List Bool) → FramesFit s free → t.tables.aside ≡ [] → Trades s free t after → FramesFit t after
+fit_after s t free after k e d = record {
+  aside = e;
+  apart = once_apart (frames_of t) (λ f. (let a = sum f in let b = before f in let v = vacant after f in omega (arith, a, b)));
+  taken = all_taken after (frames_of t) (λ f l. taken f l (among f (frames_of s)) refl);
+}
+  where
+    owned : (u : Space) → u.tables.aside ≡ [] → (f : ℕ) → among f (frames_held u) ≡ among f (frames_owned u)
+    owned u g f = let a = held_is f u in let b = owned_is f u in let c = ap (λ ts. among f (map table_frame_of ts)) g in omega (arith, a, b, c)
+
+    sum : (f : ℕ) → among f (frames_of t) + vacant after f ≡ among f (frames_of s) + vacant free f
+    sum f =
+        let a : among f (frames_of s) ≡ among f (frames_owned s) + among f (shared_frames s.tables) = among-append f (frames_owned s) (shared_frames s.tables) in
+        let b : among f (frames_of t) ≡ among f (frames_owned t) + among f (shared_frames t.tables) = among-append f (frames_owned t) (shared_frames t.tables) in
+        let c : among f (shared_frames t.tables) ≡ among f (shared_frames s.tables) = ap (λ (ms : List Mapped). among f (map frame_of_page ms)) d.shared in
+        let x = owned s k.aside f in
+        let y = owned t e f in
+        let z = d.each f in
+        omega (arith, a, b, c, x, y, z)
+
+    before : (f : ℕ) → among f (frames_of s) + vacant free f ≤ 1
+    before f = no_more (among f (frames_of s)) free f (λ l. taken_at free f (frames_of s) k.taken l) (apart_once f (frames_of s) k.apart)
+
+    taken : (f : ℕ) → 0 < among f (frames_of t) → (x : ℕ) → among f (frames_of s) ≡ x → slice_get after f ≡ Some false
+    taken f l zero g = let a = sum f in let b = vacant_once free f in there free after f true (vacant_there free f (omega (arith, a, g, l))) d.count (omega (arith, a, b, g, l))
+    taken f l (suc x) g = let a = sum f in let b = before f in there free after f false (taken_at free f (frames_of s) k.taken (omega (arith, g))) d.count (omega (arith, a, b, l))
