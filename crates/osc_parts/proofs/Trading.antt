@@ -21,7 +21,7 @@ use Rattle.osc_space.specs.Fork.{table_frame_of, heap_frame_of, frame_of_page, i
 use Rattle.osc_space.specs.Share.{shared_pages, shared_frames}
 use Rattle.osc_space.specs.Free.{unmap_all, reclaim_all}
 use Rattle.osc_space.specs.Agree.{AreApart, AllTaken, frames_of}
-use Rattle.osc_parts.specs.Frames.{one_at, among, one_where, vacant, frames_held, Trades}
+use Rattle.osc_parts.specs.Frames.{one_at, among, one_where, vacant, frames_held, frames_mapped, FramesFit, Trades}
 use Rattle.osc_parts.proofs.Counts.{among-append, apart_once, once_apart, taken_at, all_taken, vacant_take, table_more, table_less, block_page_more, page_more, page_less}
 
 -- ---- the parts of a process that hold frames
@@ -210,11 +210,6 @@ back-trades s (suc count) page b =
     (back_by-trades s page (position (λ (f : Bool). f) b.free) b refl) (back-trades s count (page + 1) c)
 
 -- ---- what a change that trades leaves: its frames are apart and taken
-pub record FramesFit (s : Space) (free : List Bool) : Type 0 where
-  pub aside : s.tables.aside ≡ []
-  pub apart : AreApart (frames_of s)
-  pub taken : AllTaken free (frames_of s)
-
 pub vacant_once : (free : List Bool) (f : ℕ) → vacant free f ≤ 1
 vacant_once free f = go (slice_get free f)
   where
@@ -230,7 +225,7 @@ there (x ∷ free) (true ∷ after) zero b e l v = absurd (let z : ⊥ = omega (
 there (x ∷ free) (false ∷ after) zero b e l v = refl
 there (x ∷ free) (y ∷ after) (suc f) b e l v = there free after f b e (omega (arith, l)) v
 
-vacant_there : (free : List Bool) (f : ℕ) → 0 < vacant free f → slice_get free f ≡ Some true
+pub vacant_there : (free : List Bool) (f : ℕ) → 0 < vacant free f → slice_get free f ≡ Some true
 vacant_there free f l = go (slice_get free f) l
   where
     go : (x : Option Bool) → 0 < one_where x → x ≡ Some true
@@ -242,29 +237,59 @@ no_more : (x : ℕ) (free : List Bool) (f : ℕ) → (0 < x → slice_get free f
 no_more zero free f t l = let v = vacant_once free f in omega (arith, v)
 no_more (suc x) free f t l = let v : vacant free f ≡ 0 = ap one_where (t (omega arith)) in omega (arith, v, l)
 
-pub fit_after : (s t : Space) (free after : List Bool) → FramesFit s free → t.tables.aside ≡ [] → Trades s free t after → FramesFit t after
-fit_after s t free after k e d = record {
-  aside = e;
-  apart = once_apart (frames_of t) (λ f. (let a = sum f in let b = before f in let v = vacant after f in omega (arith, a, b)));
-  taken = all_taken after (frames_of t) (λ f l. taken f l (among f (frames_of s)) refl);
+-- a frame is held once, or free, or neither
+pub held_once : (s : Space) (free : List Bool) (f : ℕ) → FramesFit s free → among f (frames_held s) + among f (shared_frames s.tables) + vacant free f ≤ 1
+held_once s free f k =
+    let a : among f (frames_mapped s) ≡ among f (frames_held s) + among f (shared_frames s.tables) = among-append f (frames_held s) (shared_frames s.tables) in
+    let b = no_more (among f (frames_mapped s)) free f (λ l. taken_at free f (frames_mapped s) k.taken l) (apart_once f (frames_mapped s) k.apart) in
+    omega (arith, a, b)
+
+pub held_taken : (s : Space) (free : List Bool) (f : ℕ) → FramesFit s free → 0 < among f (frames_held s) + among f (shared_frames s.tables) → slice_get free f ≡ Some false
+held_taken s free f k l =
+    let a : among f (frames_mapped s) ≡ among f (frames_held s) + among f (shared_frames s.tables) = among-append f (frames_held s) (shared_frames s.tables) in
+    taken_at free f (frames_mapped s) k.taken (omega (arith, a, l))
+
+pub fits : (s : Space) (free : List Bool) → ((f : ℕ) → among f (frames_held s) + among f (shared_frames s.tables) ≤ 1) → ((f : ℕ) → 0 < among f (frames_held s) + among f (shared_frames s.tables) → slice_get free f ≡ Some false) → FramesFit s free
+fits s free once taken = record {
+  apart = once_apart (frames_mapped s) (λ f. (let a = sum f in let b = once f in omega (arith, a, b)));
+  taken = all_taken free (frames_mapped s) (λ f l. taken f (let a = sum f in omega (arith, a, l)));
 }
   where
-    owned : (u : Space) → u.tables.aside ≡ [] → (f : ℕ) → among f (frames_held u) ≡ among f (frames_owned u)
-    owned u g f = let a = held_is f u in let b = owned_is f u in let c = ap (λ ts. among f (map table_frame_of ts)) g in omega (arith, a, b, c)
+    sum : (f : ℕ) → among f (frames_mapped s) ≡ among f (frames_held s) + among f (shared_frames s.tables)
+    sum f = among-append f (frames_held s) (shared_frames s.tables)
 
-    sum : (f : ℕ) → among f (frames_of t) + vacant after f ≡ among f (frames_of s) + vacant free f
-    sum f =
-        let a : among f (frames_of s) ≡ among f (frames_owned s) + among f (shared_frames s.tables) = among-append f (frames_owned s) (shared_frames s.tables) in
-        let b : among f (frames_of t) ≡ among f (frames_owned t) + among f (shared_frames t.tables) = among-append f (frames_owned t) (shared_frames t.tables) in
-        let c : among f (shared_frames t.tables) ≡ among f (shared_frames s.tables) = ap (λ (ms : List Mapped). among f (map frame_of_page ms)) d.shared in
-        let x = owned s k.aside f in
-        let y = owned t e f in
-        let z = d.each f in
-        omega (arith, a, b, c, x, y, z)
+pub shared_same : (s t : Space) (f : ℕ) → shared_pages t.tables ≡ shared_pages s.tables → among f (shared_frames t.tables) ≡ among f (shared_frames s.tables)
+shared_same s t f e = ap (λ (ms : List Mapped). among f (map frame_of_page ms)) e
 
-    before : (f : ℕ) → among f (frames_of s) + vacant free f ≤ 1
-    before f = no_more (among f (frames_of s)) free f (λ l. taken_at free f (frames_of s) k.taken l) (apart_once f (frames_of s) k.apart)
+pub fit_after : (s t : Space) (free after : List Bool) → FramesFit s free → Trades s free t after → FramesFit t after
+fit_after s t free after k d = fits t after
+    (λ f. (let a = held_once s free f k in let b = d.each f in let c = shared_same s t f d.shared in omega (arith, a, b, c)))
+    (λ f l. taken f l (among f (frames_held s) + among f (shared_frames s.tables)) refl)
+  where
+    taken : (f : ℕ) → 0 < among f (frames_held t) + among f (shared_frames t.tables) → (x : ℕ) → among f (frames_held s) + among f (shared_frames s.tables) ≡ x → slice_get after f ≡ Some false
+    taken f l zero g =
+        let b = d.each f in let c = shared_same s t f d.shared in let once = vacant_once free f in
+        there free after f true (vacant_there free f (omega (arith, b, c, g, l))) d.count (omega (arith, b, c, g, l, once))
+    taken f l (suc x) g =
+        let a = held_once s free f k in let b = d.each f in let c = shared_same s t f d.shared in
+        there free after f false (held_taken s free f k (omega (arith, g))) d.count (omega (arith, a, b, c, g, l))
 
-    taken : (f : ℕ) → 0 < among f (frames_of t) → (x : ℕ) → among f (frames_of s) ≡ x → slice_get after f ≡ Some false
-    taken f l zero g = let a = sum f in let b = vacant_once free f in there free after f true (vacant_there free f (omega (arith, a, g, l))) d.count (omega (arith, a, b, g, l))
-    taken f l (suc x) g = let a = sum f in let b = before f in there free after f false (taken_at free f (frames_of s) k.taken (omega (arith, g))) d.count (omega (arith, a, b, l))
+-- between two calls
+none_aside : (f : ℕ) (s : Space) → s.tables.aside ≡ [] → among f (frames_held s) ≡ among f (frames_owned s)
+none_aside f s e = let a = held_is f s in let b = owned_is f s in let c = ap (λ ts. among f (map table_frame_of ts)) e in omega (arith, a, b, c)
+
+all_of : (f : ℕ) (s : Space) → s.tables.aside ≡ [] → among f (frames_of s) ≡ among f (frames_held s) + among f (shared_frames s.tables)
+all_of f s e =
+    let a : among f (frames_of s) ≡ among f (frames_owned s) + among f (shared_frames s.tables) = among-append f (frames_owned s) (shared_frames s.tables) in
+    let b = none_aside f s e in omega (arith, a, b)
+
+pub fits_quiet : (s : Space) (free : List Bool) → s.tables.aside ≡ [] → AreApart (frames_of s) → AllTaken free (frames_of s) → FramesFit s free
+fits_quiet s free e a t = fits s free
+    (λ f. (let x = all_of f s e in let y = apart_once f (frames_of s) a in omega (arith, x, y)))
+    (λ f l. taken_at free f (frames_of s) t (let x = all_of f s e in omega (arith, x, l)))
+
+pub quiet_apart : (s : Space) (free : List Bool) → s.tables.aside ≡ [] → FramesFit s free → AreApart (frames_of s)
+quiet_apart s free e k = once_apart (frames_of s) (λ f. (let x = all_of f s e in let y = held_once s free f k in omega (arith, x, y)))
+
+pub quiet_taken : (s : Space) (free : List Bool) → s.tables.aside ≡ [] → FramesFit s free → AllTaken free (frames_of s)
+quiet_taken s free e k = all_taken free (frames_of s) (λ f l. held_taken s free f k (let x = all_of f s e in omega (arith, x, l)))

@@ -4,7 +4,8 @@ use Rattle.std.specs.Prelude.{ℕ, ◌+◌, ◌==◌, ◌≡◌, Bool, true, fal
 use Rattle.osc_paging.specs.declared.Mapped.{Mapped}
 use Rattle.osc_space.specs.Space.{Space}
 use Rattle.osc_space.specs.Fork.{table_frame_of, frames_owned}
-use Rattle.osc_space.specs.Share.{shared_pages}
+use Rattle.osc_space.specs.Share.{shared_pages, shared_frames}
+use Rattle.osc_space.specs.Agree.{AreApart, AllTaken}
 
 -- 1 where two frames are the same
 abbrev pub one_at : ℕ → ℕ → ℕ
@@ -28,6 +29,15 @@ vacant free frame = one_where (slice_get free frame)
 -- and stack, and of the leaf tables that stand aside
 abbrev pub frames_held : Space → List ℕ
 frames_held s = frames_owned s ++ map table_frame_of s.tables.aside
+
+-- these and the frames of its regions
+abbrev pub frames_mapped : Space → List ℕ
+frames_mapped s = frames_held s ++ shared_frames s.tables
+
+-- no frame is held twice, and none that is held is free: also while a call is under way
+pub record FramesFit (s : Space) (free : List Bool) : Type 0 where
+  pub apart : AreApart (frames_mapped s)
+  pub taken : AllTaken free (frames_mapped s)
 
 -- each frame that is held more was free, and each that is held less is free; the pages of regions stay
 pub record Trades (s : Space) (free : List Bool) (t : Space) (after : List Bool) : Type 0 where

@@ -1,0 +1,180 @@
+-- Where a block's pages and jobs are: its pages have frames of the heap, and its jobs write there.
+use Rattle.std.proofs.Common.{ℕ, zero, suc, ◌+◌, ◌-◌, ◌*◌, ◌/◌, ◌%◌, ◌≡◌, ◌≢◌, ◌<◌, ◌≤◌, ◌==◌, nat_lt, nat_le, ◌&&◌, ◌||◌, Bool, true, false, not, cond, Option, Some, None, is_some, unwrap_or, List, [], ◌∷◌, ◌++◌, length, map, filter, slice_get, arith, refl, ap, sym, ◌∙◌, subst, ◌⊎◌, inl, inr}
+use Rattle.std.specs.List.{list_any, range_with_len}
+use Rattle.std.proofs.lemmas.Bool.Decides.{nat_tests}
+use Rattle.std.proofs.lemmas.List.Quantifiers.{position-Some}
+use Rattle.osc_word.specs.declared.job_list.Job.{Job}
+use Rattle.osc_word.specs.declared.job_list.Job.TheVariants.{PutWord, ZeroWords, CopyWords, CopyPart, CopyTable, ClearBox, Tell, ToOut}
+use Rattle.osc_sv39.specs.declared.entries.Mapping.{Mapping}
+use Rattle.osc_sv39.proofs.EntriesBack.{leaves_read_back}
+use Rattle.osc_class.specs.declared.Room.{Room}
+use Rattle.osc_class.specs.declared.Room.TheVariants.{Small, Pages}
+use Rattle.osc_class.specs.Rooms.{room_of, class_of, class_or_pages, IsRoom, sizes, size_of, block_bytes, shadow_pages}
+use Rattle.osc_slot.specs.declared.Block.{Block}
+use Rattle.osc_slot.specs.declared.HeapPage.{HeapPage}
+use Rattle.osc_slot.specs.Areas.{slots_in, start_of, page_of, block_at_slot, offset_in}
+use Rattle.osc_slot.specs.Slots.{is_on}
+use Rattle.osc_slot.specs.Heap.{frame_of}
+use Rattle.osc_slot.proofs.Bounds.{bytes_within, start_page, pages_positive}
+use Rattle.osc_paging.specs.declared.TableFrame.{TableFrame}
+use Rattle.osc_paging.specs.KeptTables.{KeptTables, piece_of}
+use Rattle.osc_paging.specs.Agree.{ReadsAsLeaf}
+use Rattle.osc_paging.specs.CopyLaws.{IsNoTable, WritesElsewhere, AllElsewhere}
+use Rattle.osc_space.specs.LeafFlags.{read_write, read_write_at}
+use Rattle.osc_space.specs.Fork.{table_frame_of, heap_frame_of}
+use Rattle.osc_space.specs.BlockWords.{Stretch, stretches, words_in, block_word, frame_at, mappings_of, block_mappings, zero_jobs, zero_block, header_jobs, size_job, part_job, copy_jobs, trim_jobs, whole_end, words_end}
+use Rattle.osc_space.specs.WordLaws.{LiesInFrames, IsFrameOf, AllWriteIn, StayInFrames, BlockJobsStay}
+use Rattle.osc_space.proofs.WordLawProofs.{block_jobs_stay, no_piece_crosses}
+use Rattle.osc_parts.specs.Frames.{among}
+use Rattle.osc_parts.specs.Jobs.{WritesWhere, AllWriteWhere}
+use Rattle.osc_parts.proofs.Shapes.{AllRead}
+
+-- ---- rooms
+pub room_is_room : (n : ℕ) → IsRoom (room_of n)
+unfolding room_of
+room_is_room n = go (class_of (n + 16)) refl
+  where
+    go : (x : Option ℕ) → class_of (n + 16) ≡ x → IsRoom (class_or_pages x (n + 16))
+    go (Some class) e = (position-Some (λ size. nat_le (n + 16) size) sizes class 0 e).0
+    go None e = omega arith
+
+pub room_bytes : (room : Room) → IsRoom room → 32 ≤ block_bytes room
+room_bytes (Small class) r = grind arith
+room_bytes (Pages pages) r = omega arith
+
+-- ---- pages and frames
+pub page_member : (pages : List HeapPage) (page f : ℕ) → frame_of pages page ≡ Some f → 0 < among f (map heap_frame_of pages)
+page_member [] page f e = absurd (let z : ⊥ = grind (arith, e) in z)
+page_member (p ∷ pages) page f e = go (p.page == page) refl (page_member pages page f)
+  where
+    go : (b : Bool) → (p.page == page) ≡ b → (frame_of pages page ≡ Some f → 0 < among f (map heap_frame_of pages)) → 0 < among f (map heap_frame_of (p ∷ pages))
+    go true d later = let same : p.frame ≡ f = grind (arith, nat_tests, d, e) in grind (arith, nat_tests, same)
+    go false d later = let rest : frame_of pages page ≡ Some f = grind (arith, nat_tests, d, e) in let m = later rest in omega (arith, m)
+
+pub no_piece : (f : ℕ) (ts : List TableFrame) → among f (map table_frame_of ts) ≡ 0 → piece_of ts f ≡ None
+no_piece f [] e = refl
+no_piece f (t ∷ ts) e = go (t.frame == f) refl (no_piece f ts)
+  where
+    go : (b : Bool) → (t.frame == f) ≡ b → (among f (map table_frame_of ts) ≡ 0 → piece_of ts f ≡ None) → cond b (Some t.piece) (piece_of ts f) ≡ None
+    go true d later = absurd (let z : ⊥ = grind (arith, nat_tests, d, e) in z)
+    go false d later = later (grind (arith, nat_tests, d, e))
+
+pub table_counts : (f : ℕ) (ts : List TableFrame) → piece_of ts f ≢ None → 0 < among f (map table_frame_of ts)
+table_counts f [] h = absurd (h refl)
+table_counts f (t ∷ ts) h = go (t.frame == f) refl (table_counts f ts)
+  where
+    go : (b : Bool) → (t.frame == f) ≡ b → (piece_of ts f ≢ None → 0 < among f (map table_frame_of ts)) → 0 < cond b 1 0 + among f (map table_frame_of ts)
+    go true d later = omega arith
+    go false d later = let more = later (λ e. h (grind (arith, nat_tests, d, e))) in omega (arith, more)
+
+-- each page of a block has a frame
+pub record HasFrames (pages : List HeapPage) (block : Block) : Type 0 where
+  pub room : IsRoom block.room
+  pub lies : LiesInFrames block
+  pub ends : block.start % 4096 + block_bytes block.room ≤ 4096 * shadow_pages block.room
+  pub framed : (page : ℕ) → is_on page block ≡ true → is_some (frame_of pages page) ≡ true
+
+pub lies_at : (frames : ℕ) (room : Room) (slot : ℕ) → IsRoom room → LiesInFrames (block_at_slot frames room slot) × ((block_at_slot frames room slot).start % 4096 + block_bytes room ≤ 4096 * shadow_pages room)
+lies_at frames (Small class) slot r =
+    let b = bytes_within (Small class) slot r in
+    let low : offset_in (Small class) slot < 4096 = (let p = room_bytes (Small class) r in omega (arith, b, p)) in
+    let e : start_of frames (Small class) slot % 4096 ≡ offset_in (Small class) slot = omega (arith, low) in
+    (inr (omega (arith, e, b)), omega (arith, e, b))
+lies_at frames (Pages pages) slot r = (inl (omega arith), omega arith)
+
+pub on_block : (pages : List HeapPage) (block : Block) (offset : ℕ) → HasFrames pages block → offset < block_bytes block.room → is_on ((block.start + offset) / 4096) block ≡ true
+on_block pages block offset h l =
+    let e = h.ends in
+    let low : block.start / 4096 ≤ (block.start + offset) / 4096 = omega arith in
+    let high : (block.start + offset) / 4096 < block.start / 4096 + shadow_pages block.room = omega (arith, e, l) in
+    grind (arith, nat_tests, low, high)
+
+pub frame_found : (pages : List HeapPage) (page : ℕ) → is_some (frame_of pages page) ≡ true → frame_of pages page ≡ Some (frame_at pages page)
+frame_found pages page s = go (frame_of pages page) refl s
+  where
+    go : (x : Option ℕ) → frame_of pages page ≡ x → is_some x ≡ true → frame_of pages page ≡ Some (frame_at pages page)
+    go None e t = absurd (let z : ⊥ = grind (arith, t) in z)
+    go (Some f) e t = e ∙ sym (ap (λ y. Some (unwrap_or y 0)) e)
+
+-- the frames of a block's words are the heap's
+pub block_frame : (pages : List HeapPage) (block : Block) (frame : ℕ) → HasFrames pages block → IsFrameOf pages block frame → 0 < among frame (map heap_frame_of pages)
+block_frame pages block frame h i =
+    let on = on_block pages block i.offset h i.within in
+    let found = frame_found pages ((block.start + i.offset) / 4096) (h.framed _ on) in
+    subst (λ f. 0 < among f (map heap_frame_of pages)) i.is (page_member pages ((block.start + i.offset) / 4096) _ found)
+
+-- ---- jobs
+pub where_append : (own : ℕ → Type 0) (xs ys : List Job) → AllWriteWhere own xs → AllWriteWhere own ys → AllWriteWhere own (xs ++ ys)
+where_append own [] ys h k = k
+where_append own (x ∷ xs) ys h k = (h.0, where_append own xs ys h.1 k)
+
+weaker : (own other : ℕ → Type 0) (job : Job) → ((f : ℕ) → own f → other f) → WritesWhere own job → WritesWhere other job
+weaker own other (PutWord at value) h w = (w.0, h at.frame w.1)
+weaker own other (ZeroWords at count) h w = (w.0, h at.frame w.1)
+weaker own other (CopyWords from to count) h w = (w.0, h to.frame w.1)
+weaker own other (CopyPart from to bytes) h w = (w.0, h to.frame w.1)
+weaker own other (CopyTable from to) h w = h to w
+weaker own other (ClearBox hart) h w = tt
+weaker own other (Tell hart) h w = tt
+weaker own other (ToOut at first count) h w = tt
+
+pub all_weaker : (own other : ℕ → Type 0) (jobs : List Job) → ((f : ℕ) → own f → other f) → AllWriteWhere own jobs → AllWriteWhere other jobs
+all_weaker own other [] h w = tt
+all_weaker own other (job ∷ jobs) h w = (weaker own other job h w.0, all_weaker own other jobs h w.1)
+
+elsewhere : (t : KeptTables) (job : Job) → WritesWhere (IsNoTable t) job → WritesElsewhere t job
+elsewhere t (PutWord at value) w = w
+elsewhere t (ZeroWords at count) w = w
+elsewhere t (CopyWords from to count) w = w
+elsewhere t (CopyPart from to bytes) w = w
+elsewhere t (CopyTable from to) w = w
+elsewhere t (ClearBox hart) w = tt
+elsewhere t (Tell hart) w = tt
+elsewhere t (ToOut at first count) w = tt
+
+pub all_elsewhere : (t : KeptTables) (jobs : List Job) → AllWriteWhere (IsNoTable t) jobs → AllElsewhere t jobs
+all_elsewhere t [] w = tt
+all_elsewhere t (job ∷ jobs) w = (elsewhere t job w.0, all_elsewhere t jobs w.1)
+
+-- the jobs on a block write in its frames
+zeroes_where : (pages : List HeapPage) (block : Block) (ss : List Stretch) → AllWriteIn pages block (map (λ (s : Stretch). ZeroWords (block_word pages block s.from) (words_in s)) ss)
+    → StayInFrames (map (λ (s : Stretch). ZeroWords (block_word pages block s.from) (words_in s)) ss)
+    → AllWriteWhere (IsFrameOf pages block) (map (λ (s : Stretch). ZeroWords (block_word pages block s.from) (words_in s)) ss)
+zeroes_where pages block [] w s = tt
+zeroes_where pages block (x ∷ ss) w s = ((s.0, w.0), zeroes_where pages block ss w.1 s.1)
+
+pub zero_where : (pages : List HeapPage) (block : Block) → LiesInFrames block → AllWriteWhere (IsFrameOf pages block) (zero_block pages block)
+zero_where pages block l = zeroes_where pages block (stretches 16 (block_bytes block.room)) (block_jobs_stay pages block).zero (no_piece_crosses.zero pages block 16 (block_bytes block.room) l (omega arith))
+
+pub header_where : (pages : List HeapPage) (block : Block) (size : ℕ) → 16 ≤ block_bytes block.room → AllWriteWhere (IsFrameOf pages block) (header_jobs pages block size)
+header_where pages block size l =
+    let w = (block_jobs_stay pages block).header size l in
+    ((omega arith, w.0), ((omega arith, w.1.0), tt))
+
+pub fill_where : (pages : List HeapPage) (block : Block) (size : ℕ) → HasFrames pages block → AllWriteWhere (IsFrameOf pages block) (zero_block pages block ++ header_jobs pages block size)
+fill_where pages block size h =
+    where_append (IsFrameOf pages block) (zero_block pages block) (header_jobs pages block size) (zero_where pages block h.lies)
+    (header_where pages block size (let b = room_bytes block.room h.room in omega (arith, b)))
+
+-- ---- the mappings of a block's pages
+reads : (f : ℕ) → f < 4096 → ReadsAsLeaf (read_write_at f)
+reads f l = leaves_read_back f read_write (omega (arith, l)) (omega arith) refl
+
+all_read : (pages : List HeapPage) (count first : ℕ) → ((page : ℕ) → first ≤ page → page < first + count → frame_at pages page < 4096) → AllRead (mappings_of pages first count)
+all_read pages zero first h = tt
+all_read pages (suc count) first h = (reads (frame_at pages first) (h first (omega arith) (omega arith)), all_read pages count (first + 1) (λ page l u. h page (omega (arith, l)) (omega (arith, u))))
+
+pub taken_small : (free : List Bool) (f : ℕ) → slice_get free f ≡ Some false → f < length free
+taken_small [] f e = absurd (let z : ⊥ = grind (arith, e) in z)
+taken_small (x ∷ free) zero e = omega arith
+taken_small (x ∷ free) (suc f) e = let l = taken_small free f e in omega (arith, l)
+
+pub block_reads : (pages : List HeapPage) (block : Block) (free : List Bool) → HasFrames pages block → length free ≤ 4096 → ((f : ℕ) → 0 < among f (map heap_frame_of pages) → slice_get free f ≡ Some false) → AllRead (block_mappings pages block)
+block_reads pages block free h small taken = all_read pages (shadow_pages block.room) (block.start / 4096) (λ page l u. by page l u)
+  where
+    by : (page : ℕ) → block.start / 4096 ≤ page → page < block.start / 4096 + shadow_pages block.room → frame_at pages page < 4096
+    by page l u =
+        let on : is_on page block ≡ true = grind (arith, nat_tests, l, u) in
+        let found = frame_found pages page (h.framed page on) in
+        let less = taken_small free (frame_at pages page) (taken (frame_at pages page) (page_member pages page (frame_at pages page) found)) in
+        omega (arith, less, small)
