@@ -5,7 +5,10 @@ use Rattle.std.proofs.lemmas.Bool.Decides.{nat_tests}
 use Rattle.std.proofs.lemmas.List.Folds.{list_any-append}
 use Rattle.std.proofs.lemmas.Option.{slice_get-map}
 use Rattle.std.proofs.lemmas.List.FromFn.{length-map-range_with_len}
+use Rattle.std.proofs.lemmas.List.{length-append}
 use Rattle.std.proofs.Math.Nat.{pow-succ'}
+use Rattle.osc_word.specs.declared.job_list.Job.{Job}
+use Rattle.osc_word.specs.declared.job_list.Job.TheVariants.{ZeroWords}
 use Rattle.osc_word.specs.declared.settings.HeapKind.TheVariants.{Oscar}
 use Rattle.osc_word.specs.declared.calls.Answer.{Answer}
 use Rattle.osc_word.specs.declared.calls.Answer.TheVariants as answer
@@ -13,13 +16,13 @@ use Rattle.osc_word.specs.AddressMap.{first_shadow_page, is_shadow, is_canonical
 use Rattle.osc_sv39.specs.declared.entries.Mapping.{Mapping}
 use Rattle.osc_class.specs.declared.Room.{Room}
 use Rattle.osc_class.specs.declared.Room.TheVariants.{Small, Pages}
-use Rattle.osc_class.specs.Rooms.{room_of, shadow_pages, IsRoom, size_of}
+use Rattle.osc_class.specs.Rooms.{room_of, shadow_pages, IsRoom, size_of, block_bytes}
 use Rattle.osc_slot.specs.declared.Block.{Block}
 use Rattle.osc_slot.specs.declared.HeapPage.{HeapPage}
 use Rattle.osc_slot.specs.Slots.{is_held, is_covered, is_on, is_block, block_frames}
 use Rattle.osc_slot.specs.Areas.{block_at_slot, start_of, page_of}
 use Rattle.osc_slot.specs.Heap.{Heap, HeapAndFree, Backing, back_by, back, place, next_block, with_block, frame_of, free_count, IsHeap, FramesAgree, Keeps}
-use Rattle.osc_slot.proofs.Backing.{get-set}
+use Rattle.osc_slot.proofs.Backing.{get-set, free_count-le}
 use Rattle.osc_slot.proofs.Bounds.{bytes_within, pages_within, pages_positive}
 use Rattle.osc_slot.proofs.HeldBlocks.{is_block_self, same_block, any_weaker}
 use Rattle.osc_slot.proofs.InOrder.{any-insert}
@@ -36,18 +39,20 @@ use Rattle.osc_space.specs.declared.ObjectFact.{ObjectFact}
 use Rattle.osc_space.specs.LeafFlags.{read_write_at}
 use Rattle.osc_space.specs.Objects.{mark, next_page, is_live, has_page, is_live_page, fact, grant, granted_at, AreGranted}
 use Rattle.osc_space.specs.Header.{block_of}
-use Rattle.osc_space.specs.Space.{Space, Draft, first_reason, reason}
-use Rattle.osc_space.specs.BlockWords.{block_mappings, frame_at, zero_block, header_jobs}
+use Rattle.osc_space.specs.Space.{Space, Draft, Outcome, first_reason, reason, unless}
+use Rattle.osc_space.specs.BlockWords.{Stretch, stretches, words_in, block_word, block_mappings, frame_at, zero_block, header_jobs}
 use Rattle.osc_space.specs.Fork.{table_frame_of, heap_frame_of}
 use Rattle.osc_space.specs.Share.{Regions, shared_frames}
-use Rattle.osc_space.specs.Malloc.{malloc_in, malloc_reasons, block_need, fill_block, grant_object, place_block}
+use Rattle.osc_space.specs.Malloc.{malloc_in, malloc_plan, malloc_reasons, block_need, fill_block, grant_object, place_block}
 use Rattle.osc_space.specs.Agree.{is_waiting, IsLive, IsKept, IsBlockOf, ObjectsAgree}
 use Rattle.osc_space.specs.WordLaws.{IsFrameOf}
 use Rattle.osc_space.proofs.PlanLawProofs.{range_at}
 use Rattle.osc_space.proofs.ObjectLawProofs.{pages_are_granted_once, mark-grant, grants_keep}
 use Rattle.osc_parts.specs.Frames.{among, frames_held, FramesFit, Trades}
 use Rattle.osc_parts.specs.Settled.{tables_of, Settled}
-use Rattle.osc_parts.specs.Jobs.{AllWriteWhere}
+use Rattle.osc_parts.specs.Jobs.{AllWriteWhere, Pushed, IsOwn, PushesOwn}
+use Rattle.osc_parts.specs.MallocLaws.{MallocFits, MallocsFit}
+use Rattle.osc_parts.proofs.JobCounts.{pushed_both, pushed_weaker, IsOf, map_pages-links, cut-few, length-mapped}
 use Rattle.osc_parts.proofs.Lists.{grown, get_append, get_end, get_within, any_at}
 use Rattle.osc_parts.proofs.Trading.{held_is, held_once, held_taken, fit_after, over, trades_both, back-trades, map_pages-trades}
 use Rattle.osc_parts.proofs.Shapes.{map_pages-adds, map_pages-agrees}
@@ -205,8 +210,8 @@ module _ (batch : ℕ) (entries : ℕ → ℕ → ℕ) (words : List ℕ) (regio
       let l = lies_at d.space.heap.frames (room_of n) x.slot room in
       record {
         room = room;
-        lies = subst (λ (b : Block). (b.start % 4096 ≡ 0) ⊎ (b.start % 4096 + Rattle.osc_class.specs.Rooms.block_bytes (room_of n) ≤ 4096)) (sym x.block) l.0;
-        ends = subst (λ (b : Block). b.start % 4096 + Rattle.osc_class.specs.Rooms.block_bytes (room_of n) ≤ 4096 * shadow_pages (room_of n)) (sym x.block) l.1;
+        lies = subst (λ (b : Block). (b.start % 4096 ≡ 0) ⊎ (b.start % 4096 + block_bytes (room_of n) ≤ 4096)) (sym x.block) l.0;
+        ends = subst (λ (b : Block). b.start % 4096 + block_bytes (room_of n) ≤ 4096 * shadow_pages (room_of n)) (sym x.block) l.1;
         framed = λ page on. keeps.is_heap.covered page ∙ covered_now page ∙ ap (λ b. b || is_covered d.space.heap.held page) on;
       }
 
@@ -459,3 +464,47 @@ module _ (batch : ℕ) (entries : ℕ → ℕ → ℕ) (words : List ℕ) (regio
         waits = m.settled.waits;
         tables = malloc_agrees;
       })
+
+  -- ---- jobs
+  zero_few : length (zero_block placed.heap.pages the_block) ≤ shadow_pages (room_of n)
+  zero_few =
+      let a = length-mapped (λ (x : Stretch). ZeroWords (block_word placed.heap.pages the_block x.from) (words_in x)) (stretches 16 (block_bytes (room_of n))) in
+      let b = cut-few ((block_bytes (room_of n) + 4095) / 4096) 0 16 (block_bytes (room_of n)) in
+      let c = bytes_within (room_of n) 0 room in
+      omega (arith, a, b, c)
+
+  filled_pushed : Pushed (IsOwn after.space) d.jobs filled.jobs (shadow_pages (room_of n) + 2)
+  filled_pushed = record {
+    more = zero_block placed.heap.pages the_block ++ header_jobs placed.heap.pages the_block n;
+    is = refl;
+    few = (let a = length-append (zero_block placed.heap.pages the_block) (header_jobs placed.heap.pages the_block n) in let b = zero_few in omega (arith, a, b));
+    within = all_weaker (IsFrameOf placed.heap.pages the_block) (IsOwn after.space) (zero_block placed.heap.pages the_block ++ header_jobs placed.heap.pages the_block n)
+        (λ f i. (let l = block_frame placed.heap.pages the_block f has_frames i in let a = held_is f after.space in omega (arith, l, a)))
+        (fill_where placed.heap.pages the_block n has_frames);
+  }
+
+  pub malloc_pushes : PushesOwn d after
+  malloc_pushes =
+      let l = map_pages-links mappings first (tables_of filled) in
+      let p = pushed_weaker (IsOf after.space.tables.tables) (IsOwn after.space) filled.jobs after.jobs l.count l.count (λ f g. (let a = held_is f after.space in omega (arith, g, a))) (omega arith) l.pushed in
+      let all = pushed_both (IsOwn after.space) d.jobs filled.jobs after.jobs (shadow_pages (room_of n) + 2) l.count filled_pushed p in
+      let pages = pages_within d.space.heap.frames (room_of n) goes.slot room goes.found.within in
+      let frames_are = m.settled.agrees.frames in
+      let most = l.few in
+      let some = free_count-le placed.free in
+      let count = place_trades.count in
+      let len = size in
+      pushed_weaker (IsOwn after.space) (IsOwn after.space) d.jobs after.jobs (shadow_pages (room_of n) + 2 + l.count) (8 * length d.free + 64) (λ f g. g) (omega (arith, pages, frames_are, most, some, count, len)) all
+
+pub mallocs_fit : MallocsFit
+unfolding malloc_plan
+mallocs_fit batch entries words regions n d s e =
+    let m = mallocs batch entries words regions n d s e in
+    let made = malloc_in n (next_block d.space.heap (room_of n)) d in
+    subst (MallocFits batch entries words regions n d) (sym (ap (λ r. unless r d made) e)) (record {
+      settled = malloc_settles batch entries words regions n d m;
+      trades = malloc_trades batch entries words regions n d m;
+      takes = malloc_takes batch entries words regions n d m;
+      pushes = malloc_pushes batch entries words regions n d m;
+      gives = refl;
+    })

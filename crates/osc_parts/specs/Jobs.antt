@@ -1,7 +1,9 @@
 -- Where jobs write. This project's own.
-use Rattle.std.specs.Prelude.{ℕ, ◌+◌, ◌<◌, ◌≤◌, List, [], ◌∷◌}
+use Rattle.std.specs.Prelude.{ℕ, ◌+◌, ◌*◌, ◌≡◌, ◌<◌, ◌≤◌, List, [], ◌∷◌, ◌++◌, length}
 use Rattle.osc_word.specs.declared.job_list.Job.{Job}
 use Rattle.osc_word.specs.declared.job_list.Job.TheVariants.{PutWord, ZeroWords, CopyWords, CopyPart, CopyTable, ClearBox, Tell, ToOut}
+use Rattle.osc_space.specs.Space.{Space, Draft}
+use Rattle.osc_parts.specs.Frames.{among, frames_held}
 
 -- all that the job writes lies in one frame, and of that frame this is true
 abbrev pub WritesWhere : (ℕ → Type 0) → Job → Type 0
@@ -17,3 +19,19 @@ WritesWhere own (ToOut at first count) = Unit {0}
 abbrev pub AllWriteWhere : (ℕ → Type 0) → List Job → Type 0
 AllWriteWhere own [] = Unit {0}
 AllWriteWhere own (job ∷ jobs) = WritesWhere own job × AllWriteWhere own jobs
+
+-- jobs that were pushed after others: no more than so many, each within a frame of which this is true
+pub record Pushed (own : ℕ → Type 0) (before after : List Job) (most : ℕ) : Type 0 where
+  pub more : List Job
+  pub is : after ≡ before ++ more
+  pub few : length more ≤ most
+  pub within : AllWriteWhere own more
+
+-- the process holds the frame alone
+abbrev pub IsOwn : Space → ℕ → Type 0
+IsOwn s frame = 0 < among frame (frames_held s)
+
+-- what a plan pushes: room for the jobs of any plan suffices, none crosses a frame, and each writes
+-- in a frame that the process holds then
+abbrev pub PushesOwn : Draft → Draft → Type 0
+PushesOwn d e = Pushed (IsOwn e.space) d.jobs e.jobs (8 * length d.free + 64)

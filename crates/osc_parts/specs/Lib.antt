@@ -1,3 +1,4 @@
 pub mod Frames
 pub mod Settled
 pub mod Jobs
+pub mod MallocLaws
