@@ -49,14 +49,14 @@ use Rattle.osc_space.specs.WordLaws.{IsFrameOf}
 use Rattle.osc_space.proofs.PlanLawProofs.{range_at}
 use Rattle.osc_space.proofs.ObjectLawProofs.{pages_are_granted_once, mark-grant, grants_keep}
 use Rattle.osc_parts.specs.Frames.{among, frames_held, FramesFit, Trades}
-use Rattle.osc_parts.specs.Settled.{tables_of, Settled}
+use Rattle.osc_parts.specs.Settled.{tables_of, PartsFit, Settled}
 use Rattle.osc_parts.specs.Jobs.{AllWriteWhere, Pushed, IsOwn, PushesOwn}
 use Rattle.osc_parts.specs.MallocLaws.{MallocFits, MallocsFit}
 use Rattle.osc_parts.proofs.JobCounts.{pushed_both, pushed_weaker, IsOf, map_pages-links, cut-few, length-mapped}
 use Rattle.osc_parts.proofs.Lists.{grown, get_append, get_end, get_within, any_at}
 use Rattle.osc_parts.proofs.Trading.{held_is, held_once, held_taken, fit_after, over, trades_both, back-trades, map_pages-trades}
-use Rattle.osc_parts.proofs.Shapes.{map_pages-adds, map_pages-agrees}
-use Rattle.osc_parts.proofs.Settling.{settled_frames, heap_frames, Rest, settled_after}
+use Rattle.osc_parts.proofs.Shapes.{map_pages-adds, map_pages-agrees, map_pages-taken}
+use Rattle.osc_parts.proofs.Settling.{settled_frames, heap_frames, Rest, parts_after, keeps_fits}
 use Rattle.osc_parts.proofs.Blocks.{room_is_room, room_bytes, page_member, no_piece, HasFrames, lies_at, block_frame, frame_found, all_weaker, all_elsewhere, fill_where, block_reads}
 
 -- ---- what a malloc that is not refused stands on
@@ -136,19 +136,19 @@ module _ (batch : ℕ) (entries : ℕ → ℕ → ℕ) (words : List ℕ) (regio
   after = (malloc_in n the_block d).draft
 
   frames : FramesFit d.space d.free
-  frames = settled_frames Oscar d.space regions d.free m.settled.agrees
+  frames = settled_frames Oscar d.space regions d.free m.settled.parts.agrees
 
   agree : FramesAgree d.space.heap d.free
-  agree = heap_frames d.space d.free m.settled.agrees.frames frames
+  agree = heap_frames d.space d.free m.settled.parts.agrees.frames frames
 
   room : IsRoom (room_of n)
   room = room_is_room n
 
   keeps : Keeps d.space.heap d.free placed
-  keeps = place_keeps d.space.heap (room_of n) d.free m.settled.heap agree room (let q = m.needs in omega (arith, q))
+  keeps = place_keeps d.space.heap (room_of n) d.free m.settled.parts.heap agree room (let q = m.needs in omega (arith, q))
 
   goes : Next d.space.heap (room_of n) d.free
-  goes = next d.space.heap (room_of n) d.free m.settled.heap agree room (let q = m.needs in omega (arith, q))
+  goes = next d.space.heap (room_of n) d.free m.settled.parts.heap agree room (let q = m.needs in omega (arith, q))
 
   held_now : placed.heap.held ≡ with_block the_block d.space.heap.held
   held_now =
@@ -164,7 +164,7 @@ module _ (batch : ℕ) (entries : ℕ → ℕ → ℕ) (words : List ℕ) (regio
       let h = held_now in
       let c : length placed.heap.pages ≡ block_frames d.space.heap.frames (with_block (block_at_slot d.space.heap.frames (room_of n) x.slot) d.space.heap.held) =
       k.is_heap.count ∙ ap (λ f. block_frames f placed.heap.held) k.same_frames ∙ ap (block_frames d.space.heap.frames) (h ∙ ap (λ (b : Block). with_block b d.space.heap.held) x.block) in
-      let b = m.settled.heap.count in
+      let b = m.settled.parts.heap.count in
       let f = x.fresh.more in
       omega (arith, up, c, b, f)
 
@@ -250,8 +250,8 @@ module _ (batch : ℕ) (entries : ℕ → ℕ → ℕ) (words : List ℕ) (regio
   within_tables : first + length mappings ≤ 512 ^ levels_of d.space.tables
   within_tables =
       let a = m.marked in
-      let b = m.settled.shadows in
-      let c = high_enough d.space.tables.top m.settled.levels in
+      let b = m.settled.parts.shadows in
+      let c = high_enough d.space.tables.top m.settled.parts.levels in
       let e = size in
       omega (arith, a, b, c, e)
 
@@ -260,12 +260,12 @@ module _ (batch : ℕ) (entries : ℕ → ℕ → ℕ) (words : List ℕ) (regio
 
   maps : MapsPages first mappings (tables_of filled) (map_pages first mappings (tables_of filled))
   maps =
-      let r = some_root (root_of d.space.tables) m.settled.agrees.root in
+      let r = some_root (root_of d.space.tables) m.settled.parts.agrees.root in
       mappings_map_pages first r.0 mappings (tables_of filled) r.1 within_tables enough
 
   pub malloc_takes : free_count after.free + (block_need d (room_of n) + need d.space.tables first (shadow_pages (room_of n))) ≡ free_count d.free
   malloc_takes =
-      let r = some_root (root_of d.space.tables) m.settled.agrees.root in
+      let r = some_root (root_of d.space.tables) m.settled.parts.agrees.root in
       let t = mappings_take_need first r.0 mappings (tables_of filled) r.1 within_tables enough in
       let a = left in
       let e = need_size in
@@ -291,14 +291,14 @@ module _ (batch : ℕ) (entries : ℕ → ℕ → ℕ) (words : List ℕ) (regio
 
   -- ---- part by part
   objects : ObjectsAgree d.space
-  objects = m.settled.agrees.heap
+  objects = m.settled.parts.agrees.heap
 
   abbrev new : ObjectFact
   new = granted_at (next_page d.space.objects) (shadow_pages (room_of n)) n (the_block.start + 16)
 
   canonical_kept : (q : ℕ) → is_canonical_page q ≡ true → mapping_at after.space.tables.pages q ≡ None
   canonical_kept q c =
-      let a = m.marked in let b = m.settled.shadows in
+      let a = m.marked in let b = m.settled.parts.shadows in
       old_page q (grind (arith, nat_tests, a, b, c)) ∙ objects.canonical q c
 
   live_now : (q : ℕ) → is_live_page after.space.objects q ≡ (is_live_page d.space.objects q || (is_new q || false))
@@ -382,10 +382,10 @@ module _ (batch : ℕ) (entries : ℕ → ℕ → ℕ) (words : List ℕ) (regio
   frames_stay : (a k : ℕ) (o : ObjectFact) → IsLive d.space a o → k < o.pages → frame_of placed.heap.pages (o.canon / 4096 + k) ≡ frame_of d.space.heap.pages (o.canon / 4096 + k)
   frames_stay a k o live l =
       let w = (pages_are_granted_once d.space.objects objects.granted).within a o live.0 in
-      let lo = w.0 in let hi = w.1 in let mk = m.marked in let few = m.settled.shadows in
+      let lo = w.0 in let hi = w.1 in let mk = m.marked in let few = m.settled.parts.shadows in
       let shadow : is_shadow (o.first + k) ≡ true = grind (arith, nat_tests, lo, hi, mk, few, l) in
       let live_page : is_live_page d.space.objects (o.first + k) ≡ true = any_at (λ x. is_live x && has_page (o.first + k) x) d.space.objects a o live.0 (let v = live.1 in grind (arith, nat_tests, v, l)) in
-      let there : is_covered d.space.heap.held (o.canon / 4096 + k) ≡ true = sym (m.settled.heap.covered (o.canon / 4096 + k)) ∙ sym (some_of _) ∙ sym (ap is_some (objects.mapped a k o live l)) ∙ objects.shadows (o.first + k) shadow ∙ live_page in
+      let there : is_covered d.space.heap.held (o.canon / 4096 + k) ≡ true = sym (m.settled.parts.heap.covered (o.canon / 4096 + k)) ∙ sym (some_of _) ∙ sym (ap is_some (objects.mapped a k o live l)) ∙ objects.shadows (o.first + k) shadow ∙ live_page in
       keeps.stays (o.canon / 4096 + k) there (covered_now (o.canon / 4096 + k) ∙ (grind (arith, nat_tests, there)))
 
   first_page_is : (the_block.start + 16) / 4096 ≡ the_block.start / 4096
@@ -444,26 +444,32 @@ module _ (batch : ℕ) (entries : ℕ → ℕ → ℕ) (words : List ℕ) (regio
   ranges_kept q e = go (is_new q) refl
     where
       go : (b : Bool) → is_new q ≡ b → is_in_map q ≡ true
-      go true h = let a = m.marked in let b = m.settled.shadows in grind (arith, nat_tests, a, b, h)
-      go false h = m.settled.agrees.ranges q (sym (ap is_some (old_page q h)) ∙ e)
+      go true h = let a = m.marked in let b = m.settled.parts.shadows in grind (arith, nat_tests, a, b, h)
+      go false h = m.settled.parts.agrees.ranges q (sym (ap is_some (old_page q h)) ∙ e)
 
-  pub malloc_settles : Settled Oscar batch entries words regions after
-  malloc_settles =
+  pub malloc_parts : PartsFit Oscar batch regions after.space after.free
+  malloc_parts =
       let adds = map_pages-adds mappings first (tables_of filled) in
-      settled_after Oscar batch entries words regions d after m.settled malloc_trades (record {
+      parts_after Oscar batch regions d.space after.space d.free after.free m.settled.parts malloc_trades (record {
         frames = keeps.same_frames;
         shadows = refl;
         count = adds.shape.count;
         room = adds.shape.room;
         top = adds.shape.top;
-        root = ap is_some maps.root ∙ m.settled.agrees.root;
-        aside = adds.aside ∙ m.settled.agrees.aside;
+        root = ap is_some maps.root ∙ m.settled.parts.agrees.root;
+        aside = adds.aside ∙ m.settled.parts.agrees.aside;
         heap = keeps.is_heap;
         objects = malloc_objects;
         ranges = ranges_kept;
-        waits = m.settled.waits;
-        tables = malloc_agrees;
+        waits = m.settled.parts.waits;
       })
+
+  -- no frame is given
+  malloc_only_takes : KeepsTaken d.free after.free
+  malloc_only_takes = record {
+    size = malloc_trades.count;
+    taken = λ f e. map_pages-taken mappings first (tables_of filled) f (takes_only.taken f e);
+  }
 
   -- ---- jobs
   zero_few : length (zero_block placed.heap.pages the_block) ≤ shadow_pages (room_of n)
@@ -489,7 +495,7 @@ module _ (batch : ℕ) (entries : ℕ → ℕ → ℕ) (words : List ℕ) (regio
       let p = pushed_weaker (IsOf after.space.tables.tables) (IsOwn after.space) filled.jobs after.jobs l.count l.count (λ f g. (let a = held_is f after.space in omega (arith, g, a))) (omega arith) l.pushed in
       let all = pushed_both (IsOwn after.space) d.jobs filled.jobs after.jobs (shadow_pages (room_of n) + 2) l.count filled_pushed p in
       let pages = pages_within d.space.heap.frames (room_of n) goes.slot room goes.found.within in
-      let frames_are = m.settled.agrees.frames in
+      let frames_are = m.settled.parts.agrees.frames in
       let most = l.few in
       let some = free_count-le placed.free in
       let count = place_trades.count in
@@ -502,9 +508,12 @@ mallocs_fit batch entries words regions n d s e =
     let m = mallocs batch entries words regions n d s e in
     let made = malloc_in n (next_block d.space.heap (room_of n)) d in
     subst (MallocFits batch entries words regions n d) (sym (ap (λ r. unless r d made) e)) (record {
-      settled = malloc_settles batch entries words regions n d m;
-      trades = malloc_trades batch entries words regions n d m;
-      takes = malloc_takes batch entries words regions n d m;
-      pushes = malloc_pushes batch entries words regions n d m;
-      gives = refl;
+      plan = keeps_fits Oscar batch entries words regions d made.answer made.draft
+          (malloc_only_takes batch entries words regions n d m)
+          (malloc_trades batch entries words regions n d m) s.parts
+          (malloc_parts batch entries words regions n d m)
+          (malloc_agrees batch entries words regions n d m)
+          (malloc_pushes batch entries words regions n d m);
+      count = malloc_takes batch entries words regions n d m;
+      closing = refl;
     })

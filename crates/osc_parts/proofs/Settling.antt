@@ -2,6 +2,7 @@
 use Rattle.std.proofs.Common.{ℕ, zero, suc, ◌+◌, ◌*◌, ◌/◌, ◌≡◌, ◌≢◌, ◌<◌, ◌≤◌, ◌==◌, nat_lt, ◌&&◌, ◌||◌, Bool, true, false, not, cond, Option, Some, None, is_some, List, [], ◌∷◌, ◌++◌, length, map, filter, slice_get, slice_set, arith, refl, ap, sym, ◌∙◌, subst}
 use Rattle.std.proofs.lemmas.Bool.Decides.{nat_tests}
 use Rattle.osc_word.specs.declared.settings.HeapKind.{HeapKind}
+use Rattle.osc_word.specs.declared.calls.Answer.{Answer}
 use Rattle.osc_word.specs.AddressMap.{is_shared, is_in_map}
 use Rattle.osc_sv39.specs.declared.entries.Mapping.{Mapping}
 use Rattle.osc_slot.specs.declared.HeapPage.{HeapPage}
@@ -9,13 +10,17 @@ use Rattle.osc_slot.specs.Heap.{Heap, IsHeap, FramesAgree, AreTaken}
 use Rattle.osc_paging.specs.declared.Mapped.{Mapped}
 use Rattle.osc_paging.specs.KeptTables.{KeptTables, mapping_at, root_of}
 use Rattle.osc_paging.specs.Agree.{AgreesAfter}
-use Rattle.osc_space.specs.Space.{Space, Draft}
+use Rattle.osc_paging.specs.CopyLaws.{KeepsTaken}
+use Rattle.osc_space.specs.Space.{Space, Draft, Outcome, Keeps}
+use Rattle.osc_space.specs.Finish.{finished}
 use Rattle.osc_space.specs.Fork.{heap_frame_of, frames_owned}
 use Rattle.osc_space.specs.Share.{Regions, holders, shared_pages, next_shared_page}
 use Rattle.osc_space.specs.Agree.{HeapAgrees, RegionsAgree, SpaceAgrees}
 use Rattle.osc_parts.specs.Frames.{among, vacant, one_where, frames_held, FramesFit, Trades}
-use Rattle.osc_parts.specs.Settled.{tables_of, Settled}
-use Rattle.osc_parts.proofs.Trading.{held_is, held_once, held_taken, fit_after, fits_quiet, quiet_apart, quiet_taken, vacant_once, vacant_there}
+use Rattle.osc_parts.specs.Settled.{tables_of, PartsFit}
+use Rattle.osc_parts.specs.Jobs.{PushesOwn}
+use Rattle.osc_parts.specs.PlanFits.{PlanFits}
+use Rattle.osc_parts.proofs.Trading.{held_is, held_once, held_taken, fit_after, fits_quiet, quiet_apart, quiet_taken, vacant_once, vacant_there, trades_none}
 
 -- ---- regions
 pub mapping_among : (test : ℕ → Bool) (n : ℕ) (ms : List Mapped) → test n ≡ true → mapping_at (filter (λ (x : Mapped). test x.number) ms) n ≡ mapping_at ms n
@@ -77,45 +82,61 @@ settled_frames kind s regions free g = fits_quiet s free g.aside g.apart g.taken
 
 -- ---- the whole
 -- what a change keeps or makes anew, beside the frames
-pub record Rest (kind : HeapKind) (batch : ℕ) (entries : ℕ → ℕ → ℕ) (words : List ℕ) (d e : Draft) : Type 0 where
-  pub frames : e.space.heap.frames ≡ d.space.heap.frames
-  pub shadows : e.space.shadows ≡ d.space.shadows
-  pub count : e.space.tables.count ≡ d.space.tables.count
-  pub room : e.space.tables.room ≡ d.space.tables.room
-  pub top : e.space.tables.top ≡ d.space.tables.top
-  pub root : is_some (root_of e.space.tables) ≡ true
-  pub aside : e.space.tables.aside ≡ []
-  pub heap : IsHeap e.space.heap
-  pub objects : HeapAgrees kind e.space
-  pub ranges : (page : ℕ) → is_some (mapping_at e.space.tables.pages page) ≡ true → is_in_map page ≡ true
-  pub waits : length e.space.waiting < batch
-  pub tables : AgreesAfter entries words (tables_of e)
+pub record Rest (kind : HeapKind) (batch : ℕ) (s t : Space) : Type 0 where
+  pub frames : t.heap.frames ≡ s.heap.frames
+  pub shadows : t.shadows ≡ s.shadows
+  pub count : t.tables.count ≡ s.tables.count
+  pub room : t.tables.room ≡ s.tables.room
+  pub top : t.tables.top ≡ s.tables.top
+  pub root : is_some (root_of t.tables) ≡ true
+  pub aside : t.tables.aside ≡ []
+  pub heap : IsHeap t.heap
+  pub objects : HeapAgrees kind t
+  pub ranges : (page : ℕ) → is_some (mapping_at t.tables.pages page) ≡ true → is_in_map page ≡ true
+  pub waits : length t.waiting < batch
 
-pub settled_after : (kind : HeapKind) (batch : ℕ) (entries : ℕ → ℕ → ℕ) (words : List ℕ) (regions : Regions) (d e : Draft)
-    → Settled kind batch entries words regions d → Trades d.space d.free e.space e.free → Rest kind batch entries words d e
-    → Settled kind batch entries words regions e
-settled_after kind batch entries words regions d e s t r =
-    let was = s.agrees in
-    let fit = fit_after d.space e.space d.free e.free (settled_frames kind d.space regions d.free was) t in
-    let unheld = unheld_after d.space e.space regions d.free e.free (record { free_ones = was.shared.unheld; own_ones = s.private }) t in
+pub parts_after : (kind : HeapKind) (batch : ℕ) (regions : Regions) (s t : Space) (free after : List Bool)
+    → PartsFit kind batch regions s free → Trades s free t after → Rest kind batch s t → PartsFit kind batch regions t after
+parts_after kind batch regions s t free after p d r =
+    let was = p.agrees in
+    let fit = fit_after s t free after (settled_frames kind s regions free was) d in
+    let unheld = unheld_after s t regions free after (record { free_ones = was.shared.unheld; own_ones = p.private }) d in
     record {
       agrees = record {
-        frames = r.frames ∙ was.frames ∙ sym t.count;
-        count = r.count ∙ was.count ∙ sym t.count;
-        room = r.room ∙ was.room ∙ (let a = t.count in let b = r.shadows in omega (arith, a, b));
+        frames = r.frames ∙ was.frames ∙ sym d.count;
+        count = r.count ∙ was.count ∙ sym d.count;
+        room = r.room ∙ was.room ∙ (let a = d.count in let b = r.shadows in omega (arith, a, b));
         root = r.root;
         aside = r.aside;
         heap = r.objects;
-        shared = regions_after d.space.tables e.space.tables regions d.free e.free was.shared t.shared t.count unheld.free_ones;
+        shared = regions_after s.tables t.tables regions free after was.shared d.shared d.count unheld.free_ones;
         ranges = r.ranges;
-        apart = quiet_apart e.space e.free r.aside fit;
-        taken = quiet_taken e.space e.free r.aside fit;
+        apart = quiet_apart t after r.aside fit;
+        taken = quiet_taken t after r.aside fit;
       };
       heap = r.heap;
-      levels = (let a = s.levels in let b = r.top in omega (arith, a, b));
-      shadows = (let a = s.shadows in let b = r.shadows in omega (arith, a, b));
-      few = s.few;
+      levels = (let a = p.levels in let b = r.top in omega (arith, a, b));
+      shadows = (let a = p.shadows in let b = r.shadows in omega (arith, a, b));
+      few = p.few;
       waits = r.waits;
       private = unheld.own_ones;
-      tables = r.tables;
     }
+
+-- a plan after which nothing is given back
+pub keeps_fits : (kind : HeapKind) (batch : ℕ) (entries : ℕ → ℕ → ℕ) (words : List ℕ) (regions : Regions) (d : Draft) (answer : Answer) (e : Draft)
+    → KeepsTaken d.free e.free → Trades d.space d.free e.space e.free → PartsFit kind batch regions d.space d.free → PartsFit kind batch regions e.space e.free
+    → AgreesAfter entries words (tables_of e) → PushesOwn d e
+    → PlanFits kind batch entries words regions d (record { answer = answer; draft = e; closing = Keeps })
+unfolding finished
+keeps_fits kind batch entries words regions d answer e k t p q g j = record {
+  takes = k;
+  trades = t;
+  frames = settled_frames kind e.space regions e.free q.agrees;
+  tables = g;
+  pushes = j;
+  held = λ block h. absurd (let z : ⊥ = grind (arith, h) in z);
+  same = λ jobs. refl;
+  gives = trades_none e.space e.free;
+  parts = q;
+  agrees = λ now jobs a. a;
+}

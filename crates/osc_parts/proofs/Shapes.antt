@@ -4,6 +4,7 @@ use Rattle.std.specs.List.{range_with_len}
 use Rattle.std.proofs.lemmas.Bool.Decides.{nat_tests}
 use Rattle.osc_sv39.specs.declared.entries.Mapping.{Mapping}
 use Rattle.osc_sv39.specs.Walk.{piece}
+use Rattle.osc_slot.proofs.Backing.{get-set}
 use Rattle.osc_paging.specs.declared.TableFrame.{TableFrame}
 use Rattle.osc_paging.specs.KeptTables.{KeptTables, frame_of, mapping_at}
 use Rattle.osc_paging.specs.TableChanges.{Changed, linked, link, link_all, leaf_put, put_leaf, map_page, map_pages, leaf_cleared, unmap_page, unlinked, reclaim, table_frame, without_page}
@@ -69,6 +70,30 @@ map_pages-adds (m ∷ ms) n c =
     adds_both c.tables e.tables (map_pages (n + 1) ms e).tables
     (adds_both c.tables d.tables e.tables (link_all-adds c.tables.top n c) (put-adds n m (frame_of d.tables.tables 0 (n / 512)) d))
     (map_pages-adds ms (n + 1) e)
+
+-- and only takes frames
+linked-taken : (l n : ℕ) (a b p : Option ℕ) (c : Changed) (f : ℕ) → slice_get c.free f ≡ Some false → slice_get (linked l n a b p c).free f ≡ Some false
+linked-taken l n (Some g) b p c f e = e
+linked-taken l n None None p c f e = e
+linked-taken l n None (Some parent) None c f e = e
+linked-taken l n None (Some parent) (Some g) c f e = let at = get-set c.free g f false in grind (arith, nat_tests, at, e)
+
+link_all-taken : (l n : ℕ) (c : Changed) (f : ℕ) → slice_get c.free f ≡ Some false → slice_get (link_all l n c).free f ≡ Some false
+unfolding link_all
+link_all-taken zero n c f e = e
+link_all-taken (suc l) n c f e =
+    let m = piece (suc l) n in
+    link_all-taken l n (link l m c) f (linked-taken l m (frame_of c.tables.tables l m) (frame_of c.tables.tables (suc l) (m / 512)) (position (λ b. b) c.free) c f e)
+
+put-taken : (n : ℕ) (m : Mapping) (x : Option ℕ) (c : Changed) (f : ℕ) → slice_get c.free f ≡ Some false → slice_get (leaf_put n m x c).free f ≡ Some false
+put-taken n m None c f e = e
+put-taken n m (Some t) c f e = e
+
+pub map_pages-taken : (ms : List Mapping) (n : ℕ) (c : Changed) (f : ℕ) → slice_get c.free f ≡ Some false → slice_get (map_pages n ms c).free f ≡ Some false
+map_pages-taken [] n c f e = e
+map_pages-taken (m ∷ ms) n c f e =
+    let d = link_all c.tables.top n c in
+    map_pages-taken ms (n + 1) (map_page n m c) f (put-taken n m (frame_of d.tables.tables 0 (n / 512)) d f (link_all-taken c.tables.top n c f e))
 
 -- the words agree after all of them
 abbrev pub AllRead : List Mapping → Type 0

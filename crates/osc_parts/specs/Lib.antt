@@ -1,4 +1,5 @@
 pub mod Frames
 pub mod Settled
 pub mod Jobs
+pub mod PlanFits
 pub mod MallocLaws

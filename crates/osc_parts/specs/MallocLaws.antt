@@ -8,18 +8,15 @@ use Rattle.osc_space.specs.Objects.{next_page}
 use Rattle.osc_space.specs.Space.{Draft, Outcome, Keeps, first_reason}
 use Rattle.osc_space.specs.Share.{Regions}
 use Rattle.osc_space.specs.Malloc.{block_need, malloc_reasons, malloc_plan}
-use Rattle.osc_parts.specs.Frames.{Trades}
 use Rattle.osc_parts.specs.Settled.{Settled}
-use Rattle.osc_parts.specs.Jobs.{PushesOwn}
+use Rattle.osc_parts.specs.PlanFits.{PlanFits}
 
--- the memory fits again; its frames were free, exactly as many as the block and its tables need; and
+-- the memory fits again; it takes exactly as many frames as the block and its tables need; and
 -- nothing is given back when the call returns
 pub record MallocFits (batch : ℕ) (entries : ℕ → ℕ → ℕ) (words : List ℕ) (regions : Regions) (n : ℕ) (d : Draft) (o : Outcome) : Type 0 where
-  pub settled : Settled Oscar batch entries words regions o.draft
-  pub trades : Trades d.space d.free o.draft.space o.draft.free
-  pub takes : free_count o.draft.free + (block_need d (room_of n) + need d.space.tables (next_page d.space.objects) (shadow_pages (room_of n))) ≡ free_count d.free
-  pub pushes : PushesOwn d o.draft
-  pub gives : o.closing ≡ Keeps
+  pub plan : PlanFits Oscar batch entries words regions d o
+  pub count : free_count o.draft.free + (block_need d (room_of n) + need d.space.tables (next_page d.space.objects) (shadow_pages (room_of n))) ≡ free_count d.free
+  pub closing : o.closing ≡ Keeps
 
 abbrev pub MallocsFit : Type 0
 MallocsFit =
