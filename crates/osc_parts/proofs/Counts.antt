@@ -137,25 +137,25 @@ page_less test n (x ∷ ms) e = go (x.number == n) refl (page_less test n ms e)
 frame_stays : (g : ℕ) (free : List Bool) (f : ℕ) → one_at g f ≡ 0 → slice_get (slice_set free g true) f ≡ slice_get free f
 frame_stays g free f e = let at = get-set free g f true in grind (arith, nat_tests, at, e)
 
+-- the others are taken still
+pub taken_but : (free : List Bool) (g : ℕ) (xs : List ℕ) → list_any (λ y. y == g) xs ≡ false → AllTaken free xs → AllTaken (slice_set free g true) xs
+taken_but free g xs a t = all_taken (slice_set free g true) xs (λ f l. stays f l (g == f) refl)
+  where
+    stays : (f : ℕ) → 0 < among f xs → (b : Bool) → (g == f) ≡ b → slice_get (slice_set free g true) f ≡ Some false
+    stays f l true d = absurd (let same : g ≡ f = grind (arith, nat_tests, d) in let none = member_counts g xs in let z : nat_lt 0 (among g xs) ≡ false = sym none ∙ a in let w : nat_lt 0 (among f xs) ≡ false = subst (λ x. nat_lt 0 (among x xs) ≡ false) same z in let y : ⊥ = grind (arith, nat_tests, w, l) in y)
+    stays f l false d = frame_stays g free f (grind (arith, d)) ∙ taken_at free f xs t l
+
 pub give_back_vacant : (f : ℕ) (pages : List HeapPage) (free : List Bool) → AreApart (map heap_frame_of pages) → AllTaken free (map heap_frame_of pages) → vacant (give_back pages free) f ≡ among f (map heap_frame_of pages) + vacant free f
 unfolding give_back
 give_back_vacant f [] free a t = omega arith
 give_back_vacant f (p ∷ pages) free a t =
     let here = vacant_give free p.frame f t.0 in
-    let later = give_back_vacant f pages (slice_set free p.frame true) a.1 (all_taken (slice_set free p.frame true) (map heap_frame_of pages) (λ g l. stays g l (p.frame == g) refl)) in
+    let later = give_back_vacant f pages (slice_set free p.frame true) a.1 (taken_but free p.frame (map heap_frame_of pages) a.0 t.1) in
     omega (arith, here, later)
-  where
-    stays : (g : ℕ) → 0 < among g (map heap_frame_of pages) → (b : Bool) → (p.frame == g) ≡ b → slice_get (slice_set free p.frame true) g ≡ Some false
-    stays g l true d = absurd (let same : p.frame ≡ g = grind (arith, nat_tests, d) in let none = member_counts p.frame (map heap_frame_of pages) in let z : nat_lt 0 (among p.frame (map heap_frame_of pages)) ≡ false = sym none ∙ a.0 in let w : nat_lt 0 (among g (map heap_frame_of pages)) ≡ false = subst (λ x. nat_lt 0 (among x (map heap_frame_of pages)) ≡ false) same z in let y : ⊥ = grind (arith, nat_tests, w, l) in y)
-    stays g l false d = frame_stays p.frame free g (grind (arith, d)) ∙ taken_at free g (map heap_frame_of pages) t.1 l
 
 pub frames_given_vacant : (f : ℕ) (ts : List TableFrame) (free : List Bool) → AreApart (map table_frame_of ts) → AllTaken free (map table_frame_of ts) → vacant (frames_given ts free) f ≡ among f (map table_frame_of ts) + vacant free f
 frames_given_vacant f [] free a t = omega arith
 frames_given_vacant f (p ∷ ts) free a t =
     let here = vacant_give free p.frame f t.0 in
-    let later = frames_given_vacant f ts (slice_set free p.frame true) a.1 (all_taken (slice_set free p.frame true) (map table_frame_of ts) (λ g l. stays g l (p.frame == g) refl)) in
+    let later = frames_given_vacant f ts (slice_set free p.frame true) a.1 (taken_but free p.frame (map table_frame_of ts) a.0 t.1) in
     omega (arith, here, later)
-  where
-    stays : (g : ℕ) → 0 < among g (map table_frame_of ts) → (b : Bool) → (p.frame == g) ≡ b → slice_get (slice_set free p.frame true) g ≡ Some false
-    stays g l true d = absurd (let same : p.frame ≡ g = grind (arith, nat_tests, d) in let none = member_counts p.frame (map table_frame_of ts) in let z : nat_lt 0 (among p.frame (map table_frame_of ts)) ≡ false = sym none ∙ a.0 in let w : nat_lt 0 (among g (map table_frame_of ts)) ≡ false = subst (λ x. nat_lt 0 (among x (map table_frame_of ts)) ≡ false) same z in let y : ⊥ = grind (arith, nat_tests, w, l) in y)
-    stays g l false d = frame_stays p.frame free g (grind (arith, d)) ∙ taken_at free g (map table_frame_of ts) t.1 l
