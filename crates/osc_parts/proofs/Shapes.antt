@@ -157,7 +157,7 @@ pub record Reclaims (c d : Changed) : Type 0 where
   pub free : d.free ≡ c.free
   pub above : (l n : ℕ) → frame_of d.tables.tables (suc l) n ≡ frame_of c.tables.tables (suc l) n
 
-unlinked-reclaims : (leaf : ℕ) (x y : Option ℕ) (c : Changed) → Reclaims c (unlinked leaf x y c)
+pub unlinked-reclaims : (leaf : ℕ) (x y : Option ℕ) (c : Changed) → Reclaims c (unlinked leaf x y c)
 unlinked-reclaims leaf None y c = record { shape = same_shape c.tables; pages = refl; free = refl; above = λ l n. refl }
 unlinked-reclaims leaf (Some g) None c = record { shape = same_shape c.tables; pages = refl; free = refl; above = λ l n. refl }
 unlinked-reclaims leaf (Some g) (Some p) c = record { shape = record { count = refl; room = refl; top = refl }; pages = refl; free = refl; above = λ l n. (let e = frame_of-without_table c.tables.tables 0 leaf (suc l) n in grind (arith, nat_tests, e)) }

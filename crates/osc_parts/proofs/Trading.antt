@@ -173,6 +173,10 @@ unlinked-apart leaf None y c a = a
 unlinked-apart leaf (Some g) None c a = a
 unlinked-apart leaf (Some g) (Some p) c a = apart-without_table c.tables.tables 0 leaf a
 
+pub reclaim-trades : (s : Space) (leaf : ℕ) (c : Changed) → Apart c.tables.tables → TradesIn s c (reclaim leaf c) × Apart (reclaim leaf c).tables.tables
+reclaim-trades s leaf c a =
+    (unlinked-trades s leaf (frame_of c.tables.tables 0 leaf) (frame_of c.tables.tables 1 (leaf / 512)) c a refl, unlinked-apart leaf (frame_of c.tables.tables 0 leaf) (frame_of c.tables.tables 1 (leaf / 512)) c a)
+
 pub reclaim_all-trades : (s : Space) (leaves : List ℕ) (c : Changed) → Apart c.tables.tables → TradesIn s c (reclaim_all leaves c)
 reclaim_all-trades s [] c a = trades_none (over s c.tables) c.free
 reclaim_all-trades s (leaf ∷ leaves) c a =
