@@ -51,12 +51,13 @@ use Rattle.osc_space.proofs.ObjectLawProofs.{pages_are_granted_once, mark-grant,
 use Rattle.osc_parts.specs.Frames.{among, frames_held, FramesFit, Trades}
 use Rattle.osc_parts.specs.Settled.{tables_of, PartsFit, Settled}
 use Rattle.osc_parts.specs.Jobs.{AllWriteWhere, Pushed, IsOwn, PushesOwn}
-use Rattle.osc_parts.specs.MallocLaws.{MallocFits, MallocsFit}
+use Rattle.osc_parts.specs.MallocLaws.{MallocsFit, MallocsTakeNeed}
+use Rattle.osc_parts.specs.PlanFits.{PlanFits}
 use Rattle.osc_parts.proofs.JobCounts.{pushed_both, pushed_weaker, IsOf, map_pages-links, cut-few, length-mapped}
 use Rattle.osc_parts.proofs.Lists.{grown, get_append, get_end, get_within, any_at}
 use Rattle.osc_parts.proofs.Trading.{held_is, held_once, held_taken, fit_after, over, trades_both, back-trades, map_pages-trades}
 use Rattle.osc_parts.proofs.Shapes.{map_pages-adds, map_pages-agrees, map_pages-taken}
-use Rattle.osc_parts.proofs.Settling.{settled_frames, heap_frames, Rest, parts_after, keeps_fits}
+use Rattle.osc_parts.proofs.Settling.{settled_frames, heap_frames, Rest, parts_after, keeps_fits, unchanged_fits}
 use Rattle.osc_parts.proofs.Blocks.{room_is_room, room_bytes, page_member, no_piece, HasFrames, lies_at, block_frame, frame_found, all_weaker, all_elsewhere, fill_where, block_reads}
 
 -- ---- what a malloc that is not refused stands on
@@ -504,16 +505,23 @@ module _ (batch : ℕ) (entries : ℕ → ℕ → ℕ) (words : List ℕ) (regio
 
 pub mallocs_fit : MallocsFit
 unfolding malloc_plan
-mallocs_fit batch entries words regions n d s e =
-    let m = mallocs batch entries words regions n d s e in
+mallocs_fit batch entries words regions n d s = go (first_reason (malloc_reasons n d)) refl
+  where
+    go : (r : Option Answer) → first_reason (malloc_reasons n d) ≡ r → PlanFits Oscar batch entries words regions d (unless r d (malloc_in n (next_block d.space.heap (room_of n)) d))
+    go (Some a) e = unchanged_fits Oscar batch entries words regions d a s
+    go None e =
+        let m = mallocs batch entries words regions n d s e in
+        let made = malloc_in n (next_block d.space.heap (room_of n)) d in
+        keeps_fits Oscar batch entries words regions d made.answer made.draft
+        (malloc_only_takes batch entries words regions n d m)
+        (malloc_trades batch entries words regions n d m) s.parts
+        (malloc_parts batch entries words regions n d m)
+        (malloc_agrees batch entries words regions n d m)
+        (malloc_pushes batch entries words regions n d m)
+
+pub mallocs_take_need : MallocsTakeNeed
+unfolding malloc_plan
+mallocs_take_need batch entries words regions n d s e =
     let made = malloc_in n (next_block d.space.heap (room_of n)) d in
-    subst (MallocFits batch entries words regions n d) (sym (ap (λ r. unless r d made) e)) (record {
-      plan = keeps_fits Oscar batch entries words regions d made.answer made.draft
-          (malloc_only_takes batch entries words regions n d m)
-          (malloc_trades batch entries words regions n d m) s.parts
-          (malloc_parts batch entries words regions n d m)
-          (malloc_agrees batch entries words regions n d m)
-          (malloc_pushes batch entries words regions n d m);
-      count = malloc_takes batch entries words regions n d m;
-      closing = refl;
-    })
+    ap (λ r. free_count (unless r d made).draft.free + (block_need d (room_of n) + need d.space.tables (next_page d.space.objects) (shadow_pages (room_of n)))) e
+    ∙ malloc_takes batch entries words regions n d (mallocs batch entries words regions n d s e)

@@ -11,15 +11,16 @@ use Rattle.osc_paging.specs.declared.Mapped.{Mapped}
 use Rattle.osc_paging.specs.KeptTables.{KeptTables, mapping_at, root_of}
 use Rattle.osc_paging.specs.Agree.{AgreesAfter}
 use Rattle.osc_paging.specs.CopyLaws.{KeepsTaken}
-use Rattle.osc_space.specs.Space.{Space, Draft, Outcome, Keeps}
+use Rattle.osc_space.specs.Space.{Space, Draft, Outcome, Keeps, unchanged}
 use Rattle.osc_space.specs.Finish.{finished}
 use Rattle.osc_space.specs.Fork.{heap_frame_of, frames_owned}
 use Rattle.osc_space.specs.Share.{Regions, holders, shared_pages, next_shared_page}
 use Rattle.osc_space.specs.Agree.{HeapAgrees, RegionsAgree, SpaceAgrees}
 use Rattle.osc_parts.specs.Frames.{among, vacant, one_where, frames_held, FramesFit, Trades}
-use Rattle.osc_parts.specs.Settled.{tables_of, PartsFit}
-use Rattle.osc_parts.specs.Jobs.{PushesOwn}
+use Rattle.osc_parts.specs.Settled.{tables_of, PartsFit, Settled}
+use Rattle.osc_parts.specs.Jobs.{IsOwn, PushesOwn}
 use Rattle.osc_parts.specs.PlanFits.{PlanFits}
+use Rattle.osc_parts.proofs.JobCounts.{pushed_none}
 use Rattle.osc_parts.proofs.Trading.{held_is, held_once, held_taken, fit_after, fits_quiet, quiet_apart, quiet_taken, vacant_once, vacant_there, trades_none}
 
 -- ---- regions
@@ -140,3 +141,12 @@ keeps_fits kind batch entries words regions d answer e k t p q g j = record {
   parts = q;
   agrees = λ now jobs a. a;
 }
+
+same_taken : (free : List Bool) → KeepsTaken free free
+same_taken free = record { size = refl; taken = λ f e. e }
+
+-- a plan that is refused
+pub unchanged_fits : (kind : HeapKind) (batch : ℕ) (entries : ℕ → ℕ → ℕ) (words : List ℕ) (regions : Regions) (d : Draft) (answer : Answer)
+    → Settled kind batch entries words regions d → PlanFits kind batch entries words regions d (unchanged answer d)
+unchanged_fits kind batch entries words regions d answer s =
+    keeps_fits kind batch entries words regions d answer d (same_taken d.free) (trades_none d.space d.free) s.parts s.parts s.tables (pushed_none (IsOwn d.space) d.jobs (8 * length d.free + 64))

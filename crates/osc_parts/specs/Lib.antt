@@ -3,3 +3,4 @@ pub mod Settled
 pub mod Jobs
 pub mod PlanFits
 pub mod MallocLaws
+pub mod FreeLaws

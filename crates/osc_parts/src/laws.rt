@@ -1,11 +1,19 @@
 //! The laws of the parts of a process. Each function does nothing: what it says is proved of the
 //! definitions.
 
-ghost use Rattle.osc_parts.specs.MallocLaws.{MallocsFit};
+ghost use Rattle.osc_parts.specs.MallocLaws.{MallocsFit, MallocsTakeNeed};
+ghost use Rattle.osc_parts.specs.FreeLaws.{FreesFit};
 
-/// A malloc that is not refused leaves a memory whose parts fit and whose words agree with its tables
-/// once its jobs are done. It takes exactly the frames that its block and its tables need, all of
-/// them free before, and nothing is given back when it returns.
+/// A malloc leaves a memory whose parts fit and whose words agree with its tables once its jobs are
+/// done. It takes exactly the frames that its block and its tables need, all of them free before, and
+/// nothing is given back when it returns. One that is refused changes nothing.
 pub fn malloc_fits()
-    ensures { MallocsFit }
+    ensures fits { MallocsFit }
+    ensures need { MallocsTakeNeed }
+{}
+
+/// A free leaves each frame taken until it returns, and each block held that it gives back. When it
+/// returns exactly the frames that the process holds no more are free, and its parts fit again.
+pub fn free_fits()
+    ensures { FreesFit }
 {}
