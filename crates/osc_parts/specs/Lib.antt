@@ -4,3 +4,4 @@ pub mod Jobs
 pub mod PlanFits
 pub mod MallocLaws
 pub mod FreeLaws
+pub mod OthersFit

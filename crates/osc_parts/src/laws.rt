@@ -3,6 +3,7 @@
 
 ghost use Rattle.osc_parts.specs.MallocLaws.{MallocsFit, MallocsTakeNeed};
 ghost use Rattle.osc_parts.specs.FreeLaws.{FreesFit};
+ghost use Rattle.osc_parts.specs.OthersFit.{PlansKeepOthers};
 
 /// A malloc leaves a memory whose parts fit and whose words agree with its tables once its jobs are
 /// done. It takes exactly the frames that its block and its tables need, all of them free before, and
@@ -16,4 +17,9 @@ pub fn malloc_fits()
 /// returns exactly the frames that the process holds no more are free, and its parts fit again.
 pub fn free_fits()
     ensures { FreesFit }
+{}
+
+/// A call of one process leaves all of another's memory, from the plan until the return and after it.
+pub fn others_fit()
+    ensures { PlansKeepOthers }
 {}
