@@ -4,4 +4,5 @@ pub mod Jobs
 pub mod PlanFits
 pub mod MallocLaws
 pub mod FreeLaws
+pub mod ReallocLaws
 pub mod OthersFit
