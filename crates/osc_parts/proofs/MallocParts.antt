@@ -142,13 +142,13 @@ module _ (batch : ℕ) (entries : ℕ → ℕ → ℕ) (words : List ℕ) (regio
   agree : FramesAgree d.space.heap d.free
   agree = heap_frames d.space d.free m.settled.parts.agrees.frames frames
 
-  room : IsRoom (room_of n)
+  pub room : IsRoom (room_of n)
   room = room_is_room n
 
-  keeps : Keeps d.space.heap d.free placed
+  pub keeps : Keeps d.space.heap d.free placed
   keeps = place_keeps d.space.heap (room_of n) d.free m.settled.parts.heap agree room (let q = m.needs in omega (arith, q))
 
-  goes : Next d.space.heap (room_of n) d.free
+  pub goes : Next d.space.heap (room_of n) d.free
   goes = next d.space.heap (room_of n) d.free m.settled.parts.heap agree room (let q = m.needs in omega (arith, q))
 
   held_now : placed.heap.held ≡ with_block the_block d.space.heap.held
@@ -157,7 +157,7 @@ module _ (batch : ℕ) (entries : ℕ → ℕ → ℕ) (words : List ℕ) (regio
       ap (λ (p : HeapAndFree). p.heap.held) (place_is d.space.heap (room_of n) d.free room x) ∙ ap (λ (b : Block). with_block b d.space.heap.held) (sym x.block)
 
   -- the frames that the block leaves
-  left : free_count placed.free + block_need d (room_of n) ≡ free_count d.free
+  pub left : free_count placed.free + block_need d (room_of n) ≡ free_count d.free
   left =
       let k = keeps in
       let x = goes in
@@ -173,14 +173,14 @@ module _ (batch : ℕ) (entries : ℕ → ℕ → ℕ) (words : List ℕ) (regio
   placed_space : Space
   placed_space = record (d.space) { heap = placed.heap }
 
-  place_trades : Trades d.space d.free (record (d.space) { heap = placed.heap }) placed.free
+  pub place_trades : Trades d.space d.free (record (d.space) { heap = placed.heap }) placed.free
   place_trades =
       let x = goes in
       subst (λ (p : HeapAndFree). Trades d.space d.free (record (d.space) { heap = p.heap }) p.free) (sym (place_is d.space.heap (room_of n) d.free room x))
       (let t = back-trades d.space (block_need d (room_of n)) (page_of d.space.heap.frames (room_of n) x.slot) (record { pages = d.space.heap.pages; free = d.free }) in
       record { count = t.count; each = t.each; shared = t.shared })
 
-  takes_only : KeepsTaken d.free placed.free
+  pub takes_only : KeepsTaken d.free placed.free
   takes_only = record {
     size = place_trades.count;
     taken = λ f e.
@@ -205,7 +205,7 @@ module _ (batch : ℕ) (entries : ℕ → ℕ → ℕ) (words : List ℕ) (regio
   covered_now : (q : ℕ) → is_covered placed.heap.held q ≡ (is_on q the_block || is_covered d.space.heap.held q)
   covered_now q = ap (λ held. is_covered held q) held_now ∙ any-insert (λ (b : Block). b.start) (λ b. is_on q b) the_block d.space.heap.held
 
-  has_frames : HasFrames placed.heap.pages the_block
+  pub has_frames : HasFrames placed.heap.pages the_block
   has_frames =
       let x = goes in
       let l = lies_at d.space.heap.frames (room_of n) x.slot room in
@@ -276,7 +276,7 @@ module _ (batch : ℕ) (entries : ℕ → ℕ → ℕ) (words : List ℕ) (regio
   abbrev is_new : ℕ → Bool
   is_new q = nat_le first q && nat_lt q (first + shadow_pages (room_of n))
 
-  mapped_now : (q : ℕ) → mapping_at after.space.tables.pages q ≡ cond (is_new q) (slice_get mappings (q - first)) (mapping_at d.space.tables.pages q)
+  pub mapped_now : (q : ℕ) → mapping_at after.space.tables.pages q ≡ cond (is_new q) (slice_get mappings (q - first)) (mapping_at d.space.tables.pages q)
   mapped_now q =
       subst (λ len. mapping_at after.space.tables.pages q ≡ cond (nat_le first q && nat_lt q (first + len)) (slice_get mappings (q - first)) (mapping_at d.space.tables.pages q)) size
       (maps.pages q)
