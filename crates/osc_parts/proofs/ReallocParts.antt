@@ -137,7 +137,7 @@ module _ (batch : ℕ) (entries : ℕ → ℕ → ℕ) (words : List ℕ) (regio
   abbrev mappings : List Mapping
   mappings = block_mappings heap.pages block
 
-  abbrev after : Draft
+  abbrev pub after : Draft
   after = map_shadows first block filled
 
   objects : ObjectsAgree d.space
