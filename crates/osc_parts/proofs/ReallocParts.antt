@@ -119,10 +119,10 @@ module _ (batch : ℕ) (entries : ℕ → ℕ → ℕ) (words : List ℕ) (regio
   abbrev granted : List ObjectFact
   granted = grant (shadow_pages block.room) n (block.start + 16) d.space.objects
 
-  abbrev new : ObjectFact
+  abbrev pub new : ObjectFact
   new = granted_at (next_page d.space.objects) (shadow_pages block.room) n (block.start + 16)
 
-  abbrev died : Draft
+  abbrev pub died : Draft
   died = kill_object s.number terms.call (grant_object block n (at_place d heap free))
 
   abbrev unmapped : Draft
@@ -143,16 +143,16 @@ module _ (batch : ℕ) (entries : ℕ → ℕ → ℕ) (words : List ℕ) (regio
   objects : ObjectsAgree d.space
   objects = m.settled.parts.agrees.heap
 
-  is_granted : AreGranted (grant (shadow_pages block.room) n (block.start + 16) d.space.objects)
+  pub is_granted : AreGranted (grant (shadow_pages block.room) n (block.start + 16) d.space.objects)
   is_granted = grants_keep.granted (shadow_pages block.room) n (block.start + 16) d.space.objects (pages_positive block.room m.has.room) objects.granted
 
-  old_now : fact (grant (shadow_pages block.room) n (block.start + 16) d.space.objects) s.number ≡ Some o
+  pub old_now : fact (grant (shadow_pages block.room) n (block.start + 16) d.space.objects) s.number ≡ Some o
   old_now = get_append d.space.objects (new ∷ []) s.number o m.is_fact
 
   old_below : s.number < length d.space.objects
   old_below = get_within d.space.objects s.number o m.is_fact
 
-  new_now : fact died.space.objects (length d.space.objects) ≡ Some new
+  pub new_now : fact died.space.objects (length d.space.objects) ≡ Some new
   new_now = killed_other granted s.number terms.call (length d.space.objects) new (λ e. (let l = old_below in let z : ⊥ = omega (arith, e, l) in z)) (get_end d.space.objects new)
 
   -- ---- pages
@@ -166,7 +166,7 @@ module _ (batch : ℕ) (entries : ℕ → ℕ → ℕ) (words : List ℕ) (regio
   first_high = ((pages_are_granted_once d.space.objects objects.granted).within s.number o m.is_fact).0
 
   -- a page of another object
-  live_other : (q : ℕ) → has_page q o ≡ false → is_live_page died.space.objects q ≡ (is_live_page d.space.objects q || (is_new q || false))
+  pub live_other : (q : ℕ) → has_page q o ≡ false → is_live_page died.space.objects q ≡ (is_live_page d.space.objects q || (is_new q || false))
   live_other q h =
       kill_other granted s.number terms.call q o old_now h
       ∙ list_any-append (λ x. is_live x && has_page q x) d.space.objects (granted_at (next_page d.space.objects) (shadow_pages block.room) n (block.start + 16) ∷ [])

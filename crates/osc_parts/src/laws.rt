@@ -3,6 +3,7 @@
 
 ghost use Rattle.osc_parts.specs.MallocLaws.{MallocsFit, MallocsTakeNeed};
 ghost use Rattle.osc_parts.specs.FreeLaws.{FreesFit};
+ghost use Rattle.osc_parts.specs.ReallocLaws.{ReallocsFit};
 ghost use Rattle.osc_parts.specs.OthersFit.{PlansKeepOthers};
 
 /// A malloc leaves a memory whose parts fit and whose words agree with its tables once its jobs are
@@ -17,6 +18,12 @@ pub fn malloc_fits()
 /// returns exactly the frames that the process holds no more are free, and its parts fit again.
 pub fn free_fits()
     ensures { FreesFit }
+{}
+
+/// A realloc, whether its block stays or moves, leaves each frame taken until it returns, and then
+/// parts that fit: none waits any more, and only live objects hold blocks.
+pub fn realloc_fits()
+    ensures { ReallocsFit }
 {}
 
 /// A call of one process leaves all of another's memory, from the plan until the return and after it.
