@@ -1,0 +1,4 @@
+pub mod Cuts
+pub mod LowPages
+pub mod Mapped
+pub mod Shadowed

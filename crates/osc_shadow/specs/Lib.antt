@@ -1,0 +1,3 @@
+pub use Rattle.osc_space.specs.BlockWords
+pub mod Pieces
+pub mod Mapping
