@@ -5,5 +5,7 @@
 //! refusals for want of memory, the jobs on a block's words, and the mapping of its shadow pages.
 #![tactic(auto)]
 
+pub mod header;
+pub mod memory;
 pub mod shadows;
 pub mod words;
