@@ -6,3 +6,5 @@ pub mod Counted
 pub mod Agreed
 pub mod Refused
 pub mod Sights
+pub mod Granted
+pub mod Plans

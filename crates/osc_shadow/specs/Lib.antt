@@ -4,3 +4,4 @@ pub mod Mapping
 pub mod Parts
 pub mod Answers
 pub mod Sight
+pub mod Outcomes

@@ -5,7 +5,27 @@
 //! refusals for want of memory, the jobs on a block's words, and the mapping of its shadow pages.
 #![tactic(auto)]
 
-pub mod header;
-pub mod memory;
-pub mod shadows;
-pub mod words;
+mod header;
+mod malloc;
+mod memory;
+mod shadows;
+mod words;
+
+pub use header::{SeenObject, header_at, object_with};
+pub use malloc::{Malloced, plan_malloc};
+pub use memory::{Lack, know_tables, memory_lack};
+pub use shadows::map_shadows;
+pub use words::{HEADER, block_word, fill_block, zero_words};
+
+use osc_heap::CanonHeap;
+use osc_mark::Marks;
+use osc_tables::Tables;
+
+/// The memory of one process: its page tables, its shadow pages with the objects that have them, and
+/// its heap of blocks.
+#[derive(Drop)]
+pub struct Space {
+    pub tables: Tables,
+    pub marks: Marks,
+    pub heap: CanonHeap,
+}
