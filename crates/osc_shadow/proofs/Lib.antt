@@ -8,3 +8,4 @@ pub mod Refused
 pub mod Sights
 pub mod Granted
 pub mod Plans
+pub mod Unmapped

@@ -5,3 +5,5 @@ pub mod Parts
 pub mod Answers
 pub mod Sight
 pub mod Outcomes
+pub mod Unmapping
+pub mod Flushing

@@ -6,15 +6,17 @@
 #![tactic(auto)]
 
 mod header;
+mod leaves;
 mod malloc;
 mod memory;
 mod shadows;
 mod words;
 
 pub use header::{SeenObject, header_at, object_with};
+pub use leaves::{is_linked, next_leaf};
 pub use malloc::{Malloced, plan_malloc};
 pub use memory::{Lack, know_tables, memory_lack};
-pub use shadows::map_shadows;
+pub use shadows::{map_shadows, unmap_shadows};
 pub use words::{HEADER, block_word, fill_block, zero_words};
 
 use osc_heap::CanonHeap;

@@ -1,0 +1,65 @@
+//! Leaf tables over the shadow pages of objects that are let go. The leaf table with number n stands
+//! over the pages from 512 n on.
+
+ghost use Rattle.std.specs.Prelude.{◌≡◌, ◌<◌, ◌^◌, All, MatchOption, is_some, length, ◌||◌, true, false};
+ghost use Rattle.osc_paging.specs.KeptTables.{frame_of};
+ghost use Rattle.osc_tables.specs.Inside.{IsTop};
+ghost use Rattle.osc_space.specs.Objects.{facts, is_in_leaf};
+ghost use Rattle.osc_shadow.specs.Flushing.{IsLeast, NonePasses, is_over, lesser};
+
+use osc_mark::Marks;
+use osc_space::ObjectFact;
+use osc_tables::Tables;
+use osc_word::ObjectNo;
+
+/// The pages under a leaf table.
+const PAGES: u64 = 512;
+
+/// The first leaf table from one on that an object has a page under.
+fn leaf_of(fact: ObjectFact, from: u64) -> Option<u64>
+    requires some { 0 < fact.pages }
+    requires low { fact.first < 2 ^ 32 }
+    ensures { MatchOption result (NonePasses (λ leaf. is_in_leaf leaf fact) from) (IsLeast (λ leaf. is_in_leaf leaf fact) from) }
+{
+    let last = (fact.first + u64::from(fact.pages) - 1) / PAGES;
+    let leaf = from.max(fact.first / PAGES);
+    if leaf <= last { Some(leaf) } else { None }
+}
+
+/// The lesser of two numbers that there may be.
+fn lesser(a: Option<u64>, b: Option<u64>) -> Option<u64>
+    ensures { result ≡ lesser a b }
+{
+    match (a, b) {
+        (Some(x), Some(y)) => Some(x.min(y)),
+        (Some(x), None) => Some(x),
+        (None, y) => y,
+    }
+}
+
+/// The least leaf table from one on that one of these objects has a page under.
+pub fn next_leaf(marks: &Marks, gone: &[ObjectNo], from: u64) -> Option<u64>
+    requires known { All (λ object. object < length marks.now.objects) gone.now }
+    ensures { MatchOption result
+        (NonePasses (is_over (facts marks.now.objects gone.now)) from)
+        (IsLeast (is_over (facts marks.now.objects gone.now)) from) }
+{
+    let mut next = None;
+    for object in gone {
+        let fact = marks.fact(*object);
+        next = lesser(next, leaf_of(fact, from));
+    }
+    next
+}
+
+/// Whether a leaf table is linked: then its pages need no table more than those under its neighbour
+/// in the table above.
+pub fn is_linked(tables: &Tables, leaf: u64) -> bool
+    requires top { IsTop tables.now.top }
+    requires low { leaf < 2 ^ 17 }
+    ensures { result ≡ is_some (frame_of tables.now.tables 0 leaf) }
+{
+    let neighbour = leaf ^ 1;
+    let first = leaf.min(neighbour) * PAGES;
+    tables.need(first, 2 * PAGES) == tables.need(neighbour * PAGES, PAGES)
+}
