@@ -9,3 +9,5 @@ pub mod Sights
 pub mod Granted
 pub mod Plans
 pub mod Unmapped
+pub mod Linked
+pub mod Overs

@@ -1,5 +1,5 @@
 -- What is known of an object that is found at its address.
-use Rattle.std.proofs.Common.{ℕ, ◌+◌, ◌*◌, ◌/◌, ◌%◌, ◌≡◌, ◌<◌, ◌≤◌, ◌==◌, Bool, true, false, List, Option, Some, None, length, get_or, position, arith, refl, ap, sym, subst, ◌∙◌}
+use Rattle.std.proofs.Common.{ℕ, ◌+◌, ◌*◌, ◌/◌, ◌%◌, ◌^◌, ◌≡◌, ◌<◌, ◌≤◌, ◌==◌, Bool, true, false, List, Option, Some, None, length, get_or, position, arith, refl, ap, sym, subst, ◌∙◌}
 use Rattle.std.specs.Prelude.{option_map, option_and_then, slice_get}
 use Rattle.std.proofs.lemmas.Bool.Decides.{nat_tests}
 use Rattle.std.proofs.lemmas.Option.{get_or_from_slice_get}
@@ -59,3 +59,20 @@ is_shadow_address g pointer s m e =
     let some = l.some in
     let to = l.to in
     (omega arith, omega arith)
+
+-- the pages of each object lie in the shadow range
+pub record Granted (o : ObjectFact) : Type 0 where
+  pub from : 2 ^ 24 ≤ o.first
+  pub some : 0 < o.pages
+  pub to : o.first + o.pages ≤ 2 ^ 25
+
+pub granted_fact : (g : Grants) (i : ℕ) (o : ObjectFact) → AreMarked g → i < length g.objects → fact g.objects i ≡ Some o → Granted o
+granted_fact g i o m l e =
+    let s : Seen = record { number = i; fact = o } in
+    let read = get_or_from_slice_get g.objects i o o e in
+    let x = subst (Lies first_shadow_page (mark g.objects)) read (lies first_shadow_page g.objects i o m.granted l) in
+    let below = m.mark in
+    let most = m.most in
+    let from = x.from in
+    let to = x.to in
+    record { from = omega arith; some = x.some; to = omega arith }

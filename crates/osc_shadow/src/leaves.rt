@@ -59,7 +59,7 @@ pub fn is_linked(tables: &Tables, leaf: u64) -> bool
     requires low { leaf < 2 ^ 17 }
     ensures { result ≡ is_some (frame_of tables.now.tables 0 leaf) }
 {
-    let neighbour = leaf ^ 1;
-    let first = leaf.min(neighbour) * PAGES;
-    tables.need(first, 2 * PAGES) == tables.need(neighbour * PAGES, PAGES)
+    let even = leaf - leaf % 2;
+    let neighbour = even + 1 - leaf % 2;
+    tables.need(even * PAGES, 2 * PAGES) == tables.need(neighbour * PAGES, PAGES)
 }
