@@ -11,3 +11,5 @@ pub mod Plans
 pub mod Unmapped
 pub mod Linked
 pub mod Overs
+pub mod Ascending
+pub mod GivenUp

@@ -1,16 +1,21 @@
 //! Leaf tables over the shadow pages of objects that are let go. The leaf table with number n stands
 //! over the pages from 512 n on.
 
-ghost use Rattle.std.specs.Prelude.{◌≡◌, ◌<◌, ◌^◌, All, MatchOption, is_some, length, ◌||◌, true, false};
+ghost use Rattle.std.specs.Prelude.{◌≡◌, ◌+◌, ◌<◌, ◌≤◌, ◌^◌, ◌&&◌, Bool, List, All, MatchOption, is_some, length, if◌then◌else◌};
+ghost use Rattle.osc_word.specs.JobList.{spare};
 ghost use Rattle.osc_paging.specs.KeptTables.{frame_of};
-ghost use Rattle.osc_tables.specs.Inside.{IsTop};
-ghost use Rattle.osc_space.specs.Objects.{facts, is_in_leaf};
-ghost use Rattle.osc_shadow.specs.Flushing.{IsLeast, NonePasses, is_over, lesser};
+ghost use Rattle.osc_paging.specs.TableChanges.{reclaim};
+ghost use Rattle.osc_tables.specs.Calls.{changed};
+ghost use Rattle.osc_tables.specs.Inside.{IsTop, InOrder};
+ghost use Rattle.osc_mark.specs.Grants.{AreMarked};
+ghost use Rattle.osc_space.specs.Objects.{facts, is_in_leaf, leaf_dead};
+ghost use Rattle.osc_space.specs.Free.{reclaim_all};
+ghost use Rattle.osc_shadow.specs.Flushing.{IsLeast, NonePasses, ShowsLive, is_over, leaves_over, lesser};
 
 use osc_mark::Marks;
 use osc_space::ObjectFact;
 use osc_tables::Tables;
-use osc_word::ObjectNo;
+use osc_word::{Jobs, ObjectNo};
 
 /// The pages under a leaf table.
 const PAGES: u64 = 512;
@@ -62,4 +67,40 @@ pub fn is_linked(tables: &Tables, leaf: u64) -> bool
     let even = leaf - leaf % 2;
     let neighbour = even + 1 - leaf % 2;
     tables.need(even * PAGES, 2 * PAGES) == tables.need(neighbour * PAGES, PAGES)
+}
+
+/// Gives a leaf table up, where it is dead and linked.
+fn give_up(tables: &mut Tables, marks: &Marks, leaf: u64, jobs: &mut Jobs)
+    requires top { IsTop tables.old.top }
+    requires shadows { ShowsLive tables.old marks.now }
+    requires spare { 1 ≤ spare jobs.old }
+    ensures next { (free : List Bool) → changed tables.new free jobs.new.pushed
+        ≡ (if leaf_dead marks.now.objects leaf && is_some (frame_of tables.old.tables 0 leaf)
+            then reclaim leaf (changed tables.old free jobs.old.pushed)
+            else changed tables.old free jobs.old.pushed) }
+    ensures room { jobs.new.room ≡ jobs.old.room }
+{
+    if marks.leaf_dead(leaf) && is_linked(tables, leaf) {
+        tables.reclaim(leaf, jobs);
+    }
+}
+
+/// Gives up the dead leaf tables over these objects, ascending. Their frames stand aside.
+pub fn give_leaves_up(tables: &mut Tables, marks: &Marks, gone: &[ObjectNo], jobs: &mut Jobs)
+    requires top { IsTop tables.old.top }
+    requires order { InOrder tables.old.tables }
+    requires marked { AreMarked marks.now }
+    requires shadows { ShowsLive tables.old marks.now }
+    requires known { All (λ object. object < length marks.now.objects) gone.now }
+    requires spare { length tables.old.tables < spare jobs.old }
+    ensures next { (free : List Bool) → changed tables.new free jobs.new.pushed
+        ≡ reclaim_all (leaves_over tables.old marks.now.objects (facts marks.now.objects gone.now)) (changed tables.old free jobs.old.pushed) }
+    ensures few { length jobs.new.pushed ≤ length jobs.old.pushed + length tables.old.tables }
+    ensures room { jobs.new.room ≡ jobs.old.room }
+{
+    let mut from = 0;
+    while let Some(leaf) = next_leaf(marks, gone, from) {
+        give_up(tables, marks, leaf, jobs);
+        from = leaf + 1;
+    }
 }
