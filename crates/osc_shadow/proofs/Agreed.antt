@@ -59,6 +59,7 @@ pub record Agreed (s : Space) (free : List Bool) : Type 0 where
   pub opened : IsOpen s.tables
   pub taken : HasTaken s.tables free
   pub heap : FramesAgree s.heap free
+  pub tables : length s.tables.tables ≤ length free
   pub few : length (filter (λ (m : Mapped). is_image_or_stack m.number) s.tables.pages) + length (filter (λ (m : Mapped). is_shared m.number) s.tables.pages) ≤ length free
 
 pub agreed : (s : Space) (regions : Regions) (free : List Bool) → SpaceAgrees Oscar s regions free → Agreed s free
@@ -80,6 +81,7 @@ agreed s regions free a =
         aside = λ f p e. (let none = a.aside in let h : piece_of [] f ≡ Some p = subst (λ ts. piece_of ts f ≡ Some p) none e in cc);
       };
       heap = record { count = sym a.frames; taken = heap_taken free s.heap.pages blocks };
+      tables = (let l5 = length-append (map table_frame_of s.tables.tables) (map heap_frame_of s.heap.pages) in let l6 = length-map s.tables.tables table_frame_of in omega arith);
       few = omega arith;
     }
 

@@ -38,18 +38,14 @@ low_leaf g leaf m dead =
 leaf_number : (top leaf : ℕ) → IsTop top → leaf < 2 ^ 16 → number_of top leaf ≡ leaf
 leaf_number top leaf range l = at_top (λ t. number_of t leaf ≡ leaf) top range (omega arith) (omega arith)
 
-none_is : (x : Option Mapping) → is_some x ≡ false → x ≡ None
-none_is None e = refl
-none_is (Some m) e = cc
-
-dead_empty : (t : KeptTables) (g : Grants) (leaf i : ℕ) → IsTop t.top → AreMarked g → ShowsLive t g → leaf_dead g.objects leaf ≡ true → i < 512 → mapping_of t (leaf * 512 + i) ≡ None
+dead_empty : (t : KeptTables) (g : Grants) (leaf i : ℕ) → IsTop t.top → AreMarked g → ShowsLive t g.objects → leaf_dead g.objects leaf ≡ true → i < 512 → mapping_of t (leaf * 512 + i) ≡ None
 dead_empty t g leaf i top m shows dead l =
     let low = low_leaf g leaf m dead in
     let is_dead = (dead_leaves_are_dead g.objects leaf m.granted).pages dead (leaf * 512 + i) (omega arith) (omega arith) in
     let shadow : is_shadow (leaf * 512 + i) ≡ true = grind (arith, nat_tests, low, l) in
-    low_mapping t (leaf * 512 + i) top (omega arith) ∙ none_is (mapping_at t.pages (leaf * 512 + i)) (shows (leaf * 512 + i) shadow ∙ is_dead.1)
+    low_mapping t (leaf * 512 + i) top (omega arith) ∙ shows (leaf * 512 + i) shadow is_dead.1
 
-pub is_empty_leaf : (t : KeptTables) (g : Grants) (leaf : ℕ) → IsTop t.top → AreMarked g → ShowsLive t g → leaf_dead g.objects leaf ≡ true → is_some (frame_of t.tables 0 leaf) ≡ true → IsEmptyLeaf t leaf
+pub is_empty_leaf : (t : KeptTables) (g : Grants) (leaf : ℕ) → IsTop t.top → AreMarked g → ShowsLive t g.objects → leaf_dead g.objects leaf ≡ true → is_some (frame_of t.tables 0 leaf) ≡ true → IsEmptyLeaf t leaf
 is_empty_leaf t g leaf top m shows dead there =
     let low = low_leaf g leaf m dead in
     record {

@@ -13,3 +13,5 @@ pub mod Linked
 pub mod Overs
 pub mod Ascending
 pub mod GivenUp
+pub mod Clears
+pub mod Killed

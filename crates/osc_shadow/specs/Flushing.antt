@@ -1,12 +1,12 @@
 -- What a flush looks for among the leaf tables, and when it can be made. This project's own.
-use Rattle.std.specs.Prelude.{ℕ, ◌≡◌, ◌<◌, ◌≤◌, min, Bool, true, false, Option, Some, None, is_some, MatchOption, ◌&&◌, filter, List}
+use Rattle.std.specs.Prelude.{ℕ, ◌≡◌, ◌<◌, ◌≤◌, min, Bool, true, false, Option, Some, None, ◌&&◌, filter, List, ◌++◌}
 use Rattle.std.specs.List.{list_any}
 use Rattle.osc_word.specs.AddressMap.{is_shadow}
 use Rattle.osc_paging.specs.KeptTables.{KeptTables, mapping_at}
-use Rattle.osc_mark.specs.Grants.{Grants}
 use Rattle.osc_space.specs.declared.ObjectFact.{ObjectFact}
 use Rattle.osc_space.specs.Objects.{is_in_leaf, is_live_page, leaf_dead}
-use Rattle.osc_space.specs.Free.{linked_leaves}
+use Rattle.osc_paging.specs.TableChanges.{Changed}
+use Rattle.osc_space.specs.Free.{linked_leaves, reclaim_all, clear_jobs}
 
 -- one of these objects has a page under the leaf table
 abbrev pub is_over : List ObjectFact → ℕ → Bool
@@ -21,9 +21,9 @@ pub record IsLeast (test : ℕ → Bool) (from number : ℕ) : Type 0 where
 abbrev pub NonePasses : (ℕ → Bool) → ℕ → Type 0
 NonePasses test from = (x : ℕ) → from ≤ x → test x ≡ false
 
--- exactly the pages of live objects are mapped among the shadow pages
-abbrev pub ShowsLive : KeptTables → Grants → Type 0
-ShowsLive t marks = (page : ℕ) → is_shadow page ≡ true → is_some (mapping_at t.pages page) ≡ is_live_page marks.objects page
+-- no shadow page is mapped but those of live objects
+abbrev pub ShowsLive : KeptTables → List ObjectFact → Type 0
+ShowsLive t objects = (page : ℕ) → is_shadow page ≡ true → is_live_page objects page ≡ false → mapping_at t.pages page ≡ None
 
 -- the dead leaf tables over these objects
 abbrev pub leaves_over : KeptTables → List ObjectFact → List ObjectFact → List ℕ
@@ -34,3 +34,7 @@ abbrev pub lesser : Option ℕ → Option ℕ → Option ℕ
 lesser None b = b
 lesser (Some x) None = Some x
 lesser (Some x) (Some y) = Some (min x y)
+
+-- these leaf tables are given up, and every box is to be cleared
+abbrev pub flushed : ℕ → List ℕ → Changed → Changed
+flushed harts leaves c = record (reclaim_all leaves c) { jobs = (reclaim_all leaves c).jobs ++ clear_jobs harts }

@@ -1,11 +1,12 @@
 //! The look at an object's header.
 
-ghost use Rattle.std.specs.Prelude.{◌≡◌, ◌^◌, ◌<◌, ◌≤◌, option_map, IfSome};
+ghost use Rattle.std.specs.Prelude.{◌≡◌, ◌^◌, ◌<◌, ◌≤◌, ◌∷◌, [], option_map, IfSome};
 ghost use Rattle.osc_mark.specs.Grants.{AreMarked};
 ghost use Rattle.osc_tables.specs.Inside.{IsTop};
 ghost use Rattle.osc_space.specs.Objects.{fact, object_at};
-ghost use Rattle.osc_space.specs.Header.{header_in, mapped_word};
-ghost use Rattle.osc_shadow.specs.Sight.{seen_of};
+ghost use Rattle.osc_space.specs.Header.{damage_reason, header_in, mapped_word};
+ghost use Rattle.osc_space.specs.Space.{first_reason};
+ghost use Rattle.osc_shadow.specs.Sight.{damage_answer, seen_of};
 
 use crate::memory::know_tables;
 use osc_mark::Marks;
@@ -70,4 +71,31 @@ pub fn header_at(tables: &Tables, marks: &Marks, pointer: u64) -> HeaderLook
             HeaderLook::Words(first, second)
         }
     }
+}
+
+/// A header word that differs from what is kept.
+#[derive(Clone, Copy, Debug, PartialEq, Eq)]
+pub struct Damage {
+    pub kept: u64,
+    pub found: u64,
+}
+
+/// The first header word of a live object, as they were found, that differs from what is kept.
+pub fn header_damage(fact: ObjectFact, first: u64, second: u64) -> Option<Damage>
+    ensures { option_map damage_answer result
+        ≡ first_reason (damage_reason fact.canon first ∷ damage_reason fact.size second ∷ []) }
+{
+    if fact.canon != first {
+        return Some(Damage {
+            kept: fact.canon,
+            found: first,
+        });
+    }
+    if fact.size != second {
+        return Some(Damage {
+            kept: fact.size,
+            found: second,
+        });
+    }
+    None
 }

@@ -72,7 +72,7 @@ pub fn is_linked(tables: &Tables, leaf: u64) -> bool
 /// Gives a leaf table up, where it is dead and linked.
 fn give_up(tables: &mut Tables, marks: &Marks, leaf: u64, jobs: &mut Jobs)
     requires top { IsTop tables.old.top }
-    requires shadows { ShowsLive tables.old marks.now }
+    requires shadows { ShowsLive tables.old marks.now.objects }
     requires spare { 1 ≤ spare jobs.old }
     ensures next { (free : List Bool) → changed tables.new free jobs.new.pushed
         ≡ (if leaf_dead marks.now.objects leaf && is_some (frame_of tables.old.tables 0 leaf)
@@ -90,7 +90,7 @@ pub fn give_leaves_up(tables: &mut Tables, marks: &Marks, gone: &[ObjectNo], job
     requires top { IsTop tables.old.top }
     requires order { InOrder tables.old.tables }
     requires marked { AreMarked marks.now }
-    requires shadows { ShowsLive tables.old marks.now }
+    requires shadows { ShowsLive tables.old marks.now.objects }
     requires known { All (λ object. object < length marks.now.objects) gone.now }
     requires spare { length tables.old.tables < spare jobs.old }
     ensures next { (free : List Bool) → changed tables.new free jobs.new.pushed

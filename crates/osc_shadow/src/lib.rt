@@ -5,6 +5,7 @@
 //! refusals for want of memory, the jobs on a block's words, and the mapping of its shadow pages.
 #![tactic(auto)]
 
+mod flushing;
 mod header;
 mod leaves;
 mod malloc;
@@ -12,7 +13,8 @@ mod memory;
 mod shadows;
 mod words;
 
-pub use header::{SeenObject, header_at, object_with};
+pub use flushing::flush;
+pub use header::{Damage, SeenObject, header_at, header_damage, object_with};
 pub use leaves::{is_linked, next_leaf};
 pub use malloc::{Malloced, plan_malloc};
 pub use memory::{Lack, know_tables, memory_lack};
