@@ -15,3 +15,4 @@ pub mod Ascending
 pub mod GivenUp
 pub mod Clears
 pub mod Killed
+pub mod Looked

@@ -24,6 +24,12 @@ pub record PartsAgree (tables : KeptTables) (marks : Grants) (heap : Heap) (wait
   pub regions : Regions
   pub agree : SpaceAgrees Oscar (space_of tables marks heap waiting) regions free
 
+-- and for some heap in a machine with these frames
+pub record PartsAgreeOnHeap (tables : KeptTables) (marks : Grants) (waiting : List ℕ) : Type 0 where
+  pub heap : Heap
+  pub free : List Bool
+  pub agree : PartsAgree tables marks heap waiting free
+
 -- and for some objects that wait
 pub record PartsAgreeWaiting (tables : KeptTables) (marks : Grants) (heap : Heap) (free : List Bool) : Type 0 where
   pub waiting : List ℕ
