@@ -1,6 +1,6 @@
 //! The box of a hart.
 
-ghost use Rattle.std.specs.Prelude.{◌≡◌};
+ghost use Rattle.std.specs.Prelude.{◌≡◌, length};
 
 use crate::translations::Cache;
 use osc_paging::Look;
@@ -93,4 +93,11 @@ impl HartBox {
     {
         self.contents.order = order;
     }
+}
+
+/// A box has 32 slots. The function does nothing: it says so of any box.
+pub fn has_32_slots(hart_box: &HartBox)
+    ensures { length hart_box.now.slots ≡ 32 }
+{
+    let _ = &hart_box.contents;
 }

@@ -2,7 +2,7 @@
 
 use crate::answers::Told;
 use crate::state::HartState;
-use osc_cache::HartBox;
+use osc_cache::{HartBox, has_32_slots};
 use osc_guest::{Ask, Place, Touch};
 use osc_word::{Choice, Regs, Start};
 use std::marker::Model;
@@ -68,13 +68,18 @@ impl UserHart {
         outcome.choice
     }
 
-    /// The box as the hart leaves it, once for each giving.
+    /// The box as the hart leaves it, once for each giving. The hart then still asks for the giving.
+    #[tactic(auto, unfolding(osc_guest::specs::Asks::ask))]
     pub fn hand_back(&mut self) -> HartBox
         requires { is_some self.old.hart.held ≡ true }
         ensures given { result ≡ user.handed self.old.hart }
+        ensures slots { length result.slots ≡ 32 }
         ensures rest { self.new ≡ record self.old { hart = user.without_box self.old.hart } }
+        ensures asks { asks.ask self.new.hart ≡ asks.ask self.old.hart }
     {
-        self.state.held.take().unwrap()
+        let hart_box = self.state.held.take().unwrap();
+        has_32_slots(&hart_box);
+        hart_box
     }
 
     /// The registers.
