@@ -37,10 +37,10 @@ pub word_whole : (byte width word number : ℕ) → byte + width ≤ 8 → numbe
 word_whole byte width word number within fits small =
     let rest : byte + width + (8 - byte - width) ≡ 8 = omega arith in
     let whole : 256 ^ byte * 256 ^ width * 256 ^ (8 - byte - width) ≡ 2 ^ 64 =
-        rw (← pow-add 256 byte width, ← pow-add 256 (byte + width) (8 - byte - width), rest) refl in
+    rw (← pow-add 256 byte width, ← pow-add 256 (byte + width) (8 - byte - width), rest) refl in
     rw (pow-add 256 byte width, ← whole)
     (sum_below (256 ^ byte) (256 ^ width) (256 ^ (8 - byte - width)) word number
-        (one-le-pow byte 256 (omega arith)) (one-le-pow width 256 (omega arith)) fits (rw whole small))
+    (one-le-pow byte 256 (omega arith)) (one-le-pow width 256 (omega arith)) fits (rw whole small))
 
 -- and so for an aligned access
 pub part_whole : (address width word number : ℕ) → is_access_width width ≡ true → address % width ≡ 0 → number < 256 ^ width → word < 2 ^ 64 → word % 256 ^ (address % 8) + number * 256 ^ (address % 8) + word / 256 ^ (address % 8 + width) * 256 ^ (address % 8 + width) < 2 ^ 64

@@ -248,7 +248,8 @@ pub fn reserved_version(
     ensures { result ≡ accesses.reserved_version reservation access.now frame }
 {
     let reserved = reservation?;
-    if reserved.address == access.address && reserved.width == access.width
+    if reserved.address == access.address
+        && reserved.width == access.width
         && reserved.frame == frame
     {
         Some(reserved.version)

@@ -32,9 +32,16 @@ pub(crate) struct Outcome {
 }
 
 impl Outcome {
+    ghost use Rattle.std.specs.Prelude.{◌≡◌, None};
+
     /// Nothing commits, and nothing is touched.
-    pub const NOTHING: Outcome = Outcome {
-        choice: None,
-        touch: None,
-    };
+    #[inline(always)]
+    pub fn nothing() -> Outcome
+        ensures { result ≡ record { choice = None; touch = None } }
+    {
+        Outcome {
+            choice: None,
+            touch: None,
+        }
+    }
 }

@@ -28,6 +28,7 @@ impl HartState {
     ghost use Rattle.osc_hart.specs.Sound.{IsFormed, DoneFits};
 
     /// An access is looked up, unless its address is misaligned.
+    #[inline(always)]
     pub fn access(&mut self, access: &MemoryAccess) -> Outcome
         requires { IsFormed access.now }
         ensures { made self.new result ≡ instructions.unless_misaligned (accesses.alignment_trap access.now) access.now self.old }
@@ -40,6 +41,7 @@ impl HartState {
     }
 
     /// An instruction that touches no data commits.
+    #[inline(always)]
     fn step(&mut self, pc: u64) -> Outcome
         ensures { made self.new result ≡ instructions.stepped self.old.regs pc self.old }
     {
@@ -58,6 +60,7 @@ impl HartState {
 
     /// An instruction that does this.
     #[tactic(auto, unfolding(osc_guest::specs::Instructions::executed))]
+    #[inline(always)]
     fn execute(&mut self, instr: &Instr, done: IntDone) -> Outcome
         requires { DoneFits done }
         ensures { made self.new result ≡ instructions.executed instr.now done self.old }
@@ -71,7 +74,7 @@ impl HartState {
             IntDone::Call => {
                 let call = Call::of(&self.regs);
                 self.call(Request::Call(call));
-                Outcome::NOTHING
+                Outcome::nothing()
             }
             IntDone::Break => {
                 let pc = self.pc;
@@ -86,6 +89,7 @@ impl HartState {
     }
 
     /// The word of an instruction, which may be none.
+    #[inline(always)]
     fn decode(&mut self, word: u32) -> Outcome
         ensures { made self.new result ≡ instructions.decoded (instr_of word) self.old }
     {
@@ -99,6 +103,7 @@ impl HartState {
     }
 
     /// The word that holds the instruction was loaded.
+    #[inline(always)]
     pub fn fetch(&mut self, access: &MemoryAccess, word: u64) -> Outcome
         requires formed { IsFormed access.now }
         requires width { access.now.width ≡ 4 }

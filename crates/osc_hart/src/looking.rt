@@ -24,6 +24,7 @@ pub fn next(pc: u64) -> u64
 }
 
 /// What the cache of a box says of a page. A hart without its box finds nothing.
+#[inline(always)]
 fn look_in(held: &Option<HartBox>, page: u64, access: Access) -> Look
     ensures { result ≡ look (box_or_new held.now).slots page access }
 {
@@ -49,6 +50,7 @@ impl HartState {
     ghost use Rattle.osc_hart.specs.Sound.{IsAccess};
 
     /// An access without a translation faults.
+    #[inline(never)]
     fn lose(&mut self, access: &MemoryAccess) -> Outcome
         ensures { made self.new result ≡ looking.lost access.now self.old }
     {
@@ -61,6 +63,7 @@ impl HartState {
     }
 
     /// A store-conditional that fails commits, and its register gets 1.
+    #[inline(never)]
     pub fn fail_conditional(&mut self, access: &MemoryAccess) -> Outcome
         requires { access.now.rd < 32 }
         ensures { made self.new result ≡ looking.sc_failed access.now self.old }
@@ -74,6 +77,7 @@ impl HartState {
 
     /// The frame of an access is known.
     #[tactic(auto, unfolding(osc_guest::specs::Looking::reached))]
+    #[inline(always)]
     fn reach(&mut self, access: &MemoryAccess, frame: u32) -> Outcome
         requires { IsAccess access.now }
         ensures { made self.new result ≡ looking.reached access.now frame self.old }
@@ -86,7 +90,7 @@ impl HartState {
                     frame,
                     stage,
                 };
-                Outcome::NOTHING
+                Outcome::nothing()
             }
             None => self.fail_conditional(access),
         }
@@ -94,6 +98,7 @@ impl HartState {
 
     /// Looks for the page of an access in the cache, and begins to walk where it is not there.
     #[tactic(auto, unfolding(osc_guest::specs::Looking::looked_up))]
+    #[inline(always)]
     pub fn look_up(&mut self, access: &MemoryAccess) -> Outcome
         requires { IsAccess access.now }
         ensures { made self.new result ≡ looking.looked_up access.now self.old }
@@ -114,7 +119,7 @@ impl HartState {
                     level: self.levels.saturating_sub(1),
                     table: self.root,
                 };
-                Outcome::NOTHING
+                Outcome::nothing()
             }
         }
     }
@@ -143,7 +148,7 @@ impl HartState {
                 level,
                 table: frame,
             };
-            Outcome::NOTHING
+            Outcome::nothing()
         } else {
             self.lose(access)
         }
@@ -151,6 +156,7 @@ impl HartState {
 
     /// What the hart makes of an entry of this level.
     #[tactic(auto, unfolding(osc_guest::specs::Looking::walked))]
+    #[inline(never)]
     pub fn walk(&mut self, access: &MemoryAccess, level: u8, entry: PteEntry) -> Outcome
         requires { IsAccess access.now }
         ensures { made self.new result ≡ looking.walked access.now level entry self.old }

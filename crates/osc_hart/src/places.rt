@@ -90,6 +90,7 @@ impl HartState {
 
     /// The fetch of an instruction begins. A misaligned pc, which only the first of a thread can
     /// be, is found here.
+    #[inline(always)]
     fn begin_fetch(&mut self) -> Outcome
         ensures { made self.new result ≡ orders.begun self.old }
     {
@@ -101,8 +102,9 @@ impl HartState {
         }
     }
 
-    /// The hart took its box, and looks at the order in it.
-    fn take_box(&mut self, running: bool, mut hart_box: HartBox) -> Outcome
+    /// The hart looks at the order in its box. A running hart begins its next instruction.
+    #[inline(always)]
+    fn look_at_order(&mut self, running: bool, mut hart_box: HartBox) -> Outcome
         ensures { made self.new result ≡ orders.ordered running hart_box.order hart_box self.old }
     {
         match *hart_box.order() {
@@ -110,12 +112,12 @@ impl HartState {
                 hart_box.set_order(Order::Empty);
                 self.held = Some(hart_box);
                 self.call(Request::Idle);
-                Outcome::NOTHING
+                Outcome::nothing()
             }
             Order::Over => {
                 self.held = Some(hart_box);
                 self.place = Place::GiveBox { after: After::Rest };
-                Outcome::NOTHING
+                Outcome::nothing()
             }
             Order::Start(start) if !running => {
                 hart_box.set_order(Order::Empty);
@@ -126,7 +128,7 @@ impl HartState {
             Order::Empty if !running => {
                 self.held = Some(hart_box);
                 self.place = Place::GiveBox { after: After::Idle };
-                Outcome::NOTHING
+                Outcome::nothing()
             }
             _ => {
                 self.held = Some(hart_box);
@@ -135,7 +137,20 @@ impl HartState {
         }
     }
 
+    /// The hart took its box.
+    #[inline(always)]
+    fn take_box(&mut self, hart_box: HartBox) -> Outcome
+        ensures { made self.new result ≡ definition.told_at self.old.place self.old (definition.Box hart_box) }
+    {
+        match self.place {
+            Place::Run => self.look_at_order(true, hart_box),
+            Place::Idle => self.look_at_order(false, hart_box),
+            _ => Outcome::nothing(),
+        }
+    }
+
     /// An access is done and commits, and the hart goes on at a place. It found this word.
+    #[inline(always)]
     fn complete(&mut self, access: &MemoryAccess, word: u64, place: Place) -> Outcome
         requires formed { IsFormed access.now }
         requires place { PlaceFits place }
@@ -193,48 +208,97 @@ impl HartState {
                 found: word,
             },
         };
-        Outcome::NOTHING
+        Outcome::nothing()
     }
 
-    /// An answer within an access.
-    fn answer_access(
-        &mut self,
-        access: &MemoryAccess,
-        frame: u32,
-        stage: Stage,
-        told: &Told,
-    ) -> Outcome
+    /// A word was loaded within an access.
+    #[inline(always)]
+    fn take_data(&mut self, access: &MemoryAccess, frame: u32, stage: Stage, word: u64) -> Outcome
         requires access { IsAccess access.now }
         requires stage { StageFits stage access.now.width }
-        requires fits { Fits (asks.access_ask access.now frame stage) (said told.now) }
-        ensures { made self.new result ≡ definition.access_told stage access.now frame self.old (said told.now) }
+        ensures { made self.new result ≡ definition.access_told stage access.now frame self.old (definition.Word word) }
     {
-        match (stage, told) {
-            (Stage::Fetch, Told::Word(word)) => self.fetch(access, *word),
-            (Stage::Load, Told::Word(word)) => {
-                self.complete(access, *word, Place::GiveBox { after: After::Run })
-            }
-            (Stage::TakeGate { .. }, Told::Gate(version)) => {
-                self.place = Place::Access {
-                    access: *access,
-                    frame,
-                    stage: Stage::GatedLoad { version: *version },
-                };
-                Outcome::NOTHING
-            }
-            (Stage::TakeGate { only: Some(_) }, Told::OldVersion) => self.fail_conditional(access),
-            (Stage::GatedLoad { version }, Told::Word(word)) => {
-                self.load_gated(access, frame, version, *word)
-            }
-            (Stage::GatedStore { version, found }, Told::Done) => {
-                self.complete_gated(access, frame, version, version + 1, found)
-            }
-            _ => Outcome::NOTHING,
+        match stage {
+            Stage::Fetch => self.fetch(access, word),
+            Stage::Load => self.complete(access, word, Place::GiveBox { after: After::Run }),
+            Stage::GatedLoad { version } => self.load_gated(access, frame, version, word),
+            Stage::TakeGate { .. } | Stage::GatedStore { .. } => Outcome::nothing(),
         }
     }
 
-    /// The kernel was given back, and the call of a thread has this answer.
-    fn resume(&mut self, resume: Resume)
+    /// A word was loaded.
+    #[inline(always)]
+    fn take_word(&mut self, word: u64) -> Outcome
+        ensures { made self.new result ≡ definition.told_at self.old.place self.old (definition.Word word) }
+    {
+        match self.place {
+            Place::Walk { access, level, .. } => self.walk(&access, level, read_pte(word)),
+            Place::Access {
+                access,
+                frame,
+                stage,
+            } => self.take_data(&access, frame, stage, word),
+            _ => Outcome::nothing(),
+        }
+    }
+
+    /// The gate of a frame was taken.
+    fn take_gate(&mut self, version: u64) -> Outcome
+        requires { version < last_version }
+        ensures { made self.new result ≡ definition.told_at self.old.place self.old (definition.Gate version) }
+    {
+        if let Place::Access {
+            access,
+            frame,
+            stage: Stage::TakeGate { .. },
+        } = self.place
+        {
+            self.place = Place::Access {
+                access,
+                frame,
+                stage: Stage::GatedLoad { version },
+            };
+        }
+        Outcome::nothing()
+    }
+
+    /// The gate of a frame has another version than a store-conditional asked for.
+    fn miss_gate(&mut self) -> Outcome
+        ensures { made self.new result ≡ definition.told_at self.old.place self.old definition.OldVersion }
+    {
+        match self.place {
+            Place::Access {
+                access,
+                stage: Stage::TakeGate { only: Some(_) },
+                ..
+            } => self.fail_conditional(&access),
+            _ => Outcome::nothing(),
+        }
+    }
+
+    /// The action was done.
+    #[inline(always)]
+    fn finish(&mut self) -> Outcome
+        ensures { made self.new result ≡ definition.told_at self.old.place self.old definition.Done }
+    {
+        match self.place {
+            Place::Access {
+                access,
+                frame,
+                stage: Stage::GatedStore { version, found },
+            } => return self.complete_gated(&access, frame, version, version + 1, found),
+            Place::OpenGate { .. } => self.place = Place::GiveBox { after: After::Run },
+            Place::GiveBox { after } => {
+                self.place = place_then(after);
+                self.held = None;
+            }
+            _ => {}
+        }
+        Outcome::nothing()
+    }
+
+    /// The call of a thread has this answer.
+    fn return_from(&mut self, resume: Resume)
         ensures { self.new ≡ definition.resumed resume self.old }
     {
         match resume {
@@ -254,44 +318,36 @@ impl HartState {
     }
 
     /// The kernel was given back.
-    fn return_from(&mut self, request: Request, resume: Resume)
-        ensures { made self.new Outcome.NOTHING ≡ definition.told_at (Place.Call request) self.old (definition.Resumed resume) }
+    fn resume(&mut self, resume: Resume) -> Outcome
+        ensures { made self.new result ≡ definition.told_at self.old.place self.old (definition.Resumed resume) }
     {
-        match request {
-            Request::Idle => self.place = Place::Idle,
-            Request::Call(_) => self.resume(resume),
+        match self.place {
+            Place::Call {
+                request: Request::Idle,
+            } => self.place = Place::Idle,
+            Place::Call {
+                request: Request::Call(_),
+            } => self.return_from(resume),
+            _ => {}
         }
+        Outcome::nothing()
     }
 
     /// What the hart makes of the answer to its action.
     #[tactic(auto, unfolding(osc_guest::specs::Told::told, osc_guest::specs::Asks::ask))]
+    #[inline(always)]
     pub fn answer(&mut self, told: Told) -> Outcome
         requires { Fits (asks.ask self.old) (said told) }
         ensures { made self.new result ≡ definition.told self.old (said told) }
     {
-        match (self.place, told) {
-            (Place::Run, Told::Box(hart_box)) => self.take_box(true, hart_box),
-            (Place::Idle, Told::Box(hart_box)) => self.take_box(false, hart_box),
-            (Place::Walk { access, level, .. }, Told::Word(word)) => {
-                self.walk(&access, level, read_pte(word))
-            }
-            (Place::Access { access, frame, stage }, told) => {
-                self.answer_access(&access, frame, stage, &told)
-            }
-            (Place::OpenGate { .. }, Told::Done) => {
-                self.place = Place::GiveBox { after: After::Run };
-                Outcome::NOTHING
-            }
-            (Place::GiveBox { after }, Told::Done) => {
-                self.place = place_then(after);
-                self.held = None;
-                Outcome::NOTHING
-            }
-            (Place::Call { request }, Told::Resumed(resume)) => {
-                self.return_from(request, resume);
-                Outcome::NOTHING
-            }
-            _ => Outcome::NOTHING,
+        match told {
+            Told::Box(hart_box) => self.take_box(hart_box),
+            Told::Word(word) => self.take_word(word),
+            Told::Gate(version) => self.take_gate(version),
+            Told::OldVersion => self.miss_gate(),
+            Told::Resumed(resume) => self.resume(resume),
+            Told::Done => self.finish(),
+            Told::Busy => Outcome::nothing(),
         }
     }
 }

@@ -2,7 +2,7 @@
 
 ghost use Rattle.std.specs.Prelude.{◌≡◌};
 
-use crate::accesses::{touched_kind, kind_of};
+use crate::accesses::{kind_of, touched_kind};
 use crate::answers::Outcome;
 use osc_cache::HartBox;
 use osc_guest::{After, MemoryAccess, Place, Reservation, Touch};
@@ -33,9 +33,19 @@ impl Model for HartState {
     ghost Value = { UserHart };
 
     ghost view = { λ s. record {
-        pid = s.pid; root = s.root; levels = s.levels; frames = s.frames; regs = s.regs; pc = s.pc;
-        reservation = s.reservation; place = s.place; held = s.held;
-        retired = s.retired; hits = s.hits; walks = s.walks } };
+      pid = s.pid;
+      root = s.root;
+      levels = s.levels;
+      frames = s.frames;
+      regs = s.regs;
+      pc = s.pc;
+      reservation = s.reservation;
+      place = s.place;
+      held = s.held;
+      retired = s.retired;
+      hits = s.hits;
+      walks = s.walks;
+    } };
 
     ghost invariant = { λ s. PlaceFits s.place };
 }
@@ -70,6 +80,7 @@ impl HartState {
     }
 
     /// The hart gets another thread, without a reservation.
+    #[inline(never)]
     pub fn start(&mut self, start: &Start)
         ensures { self.new ≡ user.starting start.now self.old }
     {
@@ -83,6 +94,7 @@ impl HartState {
     }
 
     /// An access of the hart's process.
+    #[inline(always)]
     pub fn touch(&self, access: &MemoryAccess, done: bool) -> Touch
         ensures { result ≡ accesses.touch_of access.now done self.now }
     {
@@ -96,6 +108,7 @@ impl HartState {
     }
 
     /// An instruction commits.
+    #[inline(always)]
     pub fn commit(&mut self, choice: Choice) -> Outcome
         ensures { made self.new result ≡ user.commits choice self.old }
     {
@@ -107,6 +120,7 @@ impl HartState {
     }
 
     /// The hart gives its box and then takes the kernel. Its reservation ends.
+    #[inline(always)]
     pub fn call(&mut self, request: Request)
         ensures { self.new ≡ looking.calling request self.old }
     {
@@ -117,6 +131,7 @@ impl HartState {
     }
 
     /// An instruction that faults commits, and calls for the end of its process. Registers and pc stay.
+    #[inline(never)]
     pub fn fault(&mut self, cause: u8, address: u64) -> Outcome
         ensures { made self.new result ≡ looking.faulted (record { cause = cause; address = address }) self.old }
     {
