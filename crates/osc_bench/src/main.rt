@@ -3,6 +3,7 @@
 //! time the whole program.
 #![tactic(auto)]
 
+mod hart;
 mod heap;
 mod tables;
 mod words;
@@ -17,6 +18,7 @@ use tables::Order;
 enum Part {
     Decode,
     Encode,
+    Hart,
     Heap,
     Tables(Order),
 }
@@ -26,6 +28,7 @@ impl Part {
         match name {
             "decode" => Some(Part::Decode),
             "encode" => Some(Part::Encode),
+            "hart" => Some(Part::Hart),
             "heap" => Some(Part::Heap),
             "tables-latest" => Some(Part::Tables(Order::Latest)),
             "tables-oldest" => Some(Part::Tables(Order::Oldest)),
@@ -37,6 +40,7 @@ impl Part {
         match self {
             Part::Decode => Ok(words::decoded(count)),
             Part::Encode => Ok(words::encoded(count)),
+            Part::Hart => hart::stepped(alloc, count),
             Part::Heap => heap::paired(alloc, count),
             Part::Tables(order) => tables::paired(alloc, count, order),
         }
@@ -48,7 +52,7 @@ fn main(rt: HostRuntime) -> Result<()> {
     let name = arguments.next().context("the words are PART and COUNT")?;
     let count = arguments.next().context("the words are PART and COUNT")?;
     let part = Part::named(name.as_str()).context(
-        "PART is decode, encode, heap, tables-latest or tables-oldest",
+        "PART is decode, encode, hart, heap, tables-latest or tables-oldest",
     )?;
     let count: u64 = count.parse().context("COUNT is a number")?;
     let checksum = part.checksum(rt.alloc(), count)?;

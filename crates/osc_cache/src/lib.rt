@@ -6,7 +6,7 @@
 mod hart_box;
 mod translations;
 
-pub use hart_box::HartBox;
+pub use hart_box::{HartBox, has_32_slots};
 pub use osc_paging::{Look, look_finds_latest};
 pub use translations::Cache;
 

@@ -2,6 +2,7 @@ use crate::{Cache, HartBox, Look};
 use bitflags::Flags;
 use osc_sv39::{Access, Mapping, PteBits};
 use osc_word::Order;
+use std::test::Fail;
 
 fn mapping(frame: u32, bits: u8) -> Mapping {
     Mapping {
@@ -27,11 +28,15 @@ fn latest_in_a_slot(rt: HostRuntime) {
 }
 
 #[test]
-fn boxes(rt: HostRuntime) {
-    let mut hart_box = HartBox::new();
-    assert_eq!(rt; hart_box.order, Order::Empty);
-    hart_box.cache.fill(7, mapping(1, 0xd7));
-    hart_box.order = Order::Over;
-    assert_eq!(rt; hart_box.cache.look(7, Access::Store), Look::Hit(1));
-    assert_eq!(rt; hart_box.order, Order::Over);
+fn boxes(rt: HostRuntime) -> Result<(), Fail> {
+    let mut hart_box = HartBox::new(rt.alloc())?;
+    assert_eq!(rt; *hart_box.order(), Order::Empty);
+    hart_box.fill(7, mapping(1, 0xd7));
+    hart_box.set_order(Order::Over);
+    assert_eq!(rt; hart_box.look(7, Access::Store), Look::Hit(1));
+    assert_eq!(rt; *hart_box.order(), Order::Over);
+    hart_box.clear();
+    assert_eq!(rt; hart_box.look(7, Access::Store), Look::Miss);
+    assert_eq!(rt; *hart_box.order(), Order::Over);
+    Ok(())
 }

@@ -1,6 +1,6 @@
 //! The cache of translations.
 
-ghost use Rattle.std.specs.Prelude.{◌≡◌, ◌%◌, ◌↔◌};
+ghost use Rattle.std.specs.Prelude.{◌≡◌, ◌%◌, ◌↔◌, length};
 ghost use Rattle.osc_paging.specs.Boxes.{look, filled, no_entries, seen_in};
 ghost use Rattle.osc_paging.specs.declared.Look.TheVariants.{Miss};
 ghost use Rattle.osc_cache.specs.Slots.{NoneAllows};
@@ -50,7 +50,8 @@ impl Cache {
     #[tactic(auto, unfolding(osc_paging::specs::Boxes::no_entries))]
     /// A cache without a translation.
     pub fn new() -> Cache
-        ensures { result ≡ no_entries }
+        ensures empty { result ≡ no_entries }
+        ensures slots { length result ≡ 32 }
     {
         Cache { slots: [None; 32] }
     }
@@ -59,13 +60,15 @@ impl Cache {
     pub fn look(&self, page: u64, access: Access) -> Look
         ensures seen { result ≡ look self.now page access }
         ensures miss { (result ≡ Miss) ↔ NoneAllows self.now page access }
+        ensures slots { length self.now ≡ 32 }
     {
         seen_in(self.slots[slot_of(page)], page, access)
     }
 
     /// Keeps a translation, in place of what stands in its slot.
     pub fn fill(&mut self, page: u64, mapping: Mapping)
-        ensures { self.new ≡ filled self.old page mapping }
+        ensures filled { self.new ≡ filled self.old page mapping }
+        ensures slots { length self.new ≡ 32 }
     {
         self.slots[slot_of(page)] = Some(CacheEntry { page, mapping });
     }
@@ -73,7 +76,8 @@ impl Cache {
     #[tactic(auto, unfolding(osc_paging::specs::Boxes::no_entries))]
     /// Drops all translations.
     pub fn clear(&mut self)
-        ensures { self.new ≡ no_entries }
+        ensures empty { self.new ≡ no_entries }
+        ensures slots { length self.new ≡ 32 }
     {
         self.slots = [None; 32];
     }

@@ -1,0 +1,4 @@
+mod Powers
+mod Parts
+mod Empty
+mod Combined
