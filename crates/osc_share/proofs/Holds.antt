@@ -72,7 +72,7 @@ leaves_one end r frame frames all e left rest = record {
 }
 
 -- ---- the machine keeps its frames
-length_hold : (frames : List ℕ) (regions : Regions) → length (hold frames regions) ≡ length regions
+pub length_hold : (frames : List ℕ) (regions : Regions) → length (hold frames regions) ≡ length regions
 length_hold [] regions = refl
 length_hold (frame ∷ frames) regions = length_hold frames (set regions frame (holders regions frame + 1)) ∙ length-set regions frame (holders regions frame + 1)
 

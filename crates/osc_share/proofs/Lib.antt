@@ -1,2 +1,10 @@
-pub mod Pages
+pub mod Fresh
+pub mod FreeNumbers
 pub mod Holds
+pub mod Lengths
+pub mod Low
+pub mod Pages
+pub mod Room
+pub mod Rows
+pub mod Shares
+pub mod Taking

@@ -9,17 +9,12 @@ use Rattle.osc_paging.specs.declared.Mapped.{Mapped}
 use Rattle.osc_paging.specs.KeptTables.{KeptTables, mapping_at, mapping_of}
 use Rattle.osc_tables.specs.Inside.{IsTop, AscendFrom}
 use Rattle.osc_tables.specs.Calls.{IsNextPage, IsOrdered}
-use Rattle.osc_tables.proofs.KeptFacts.{at_top}
+use Rattle.osc_share.proofs.Low.{low_page}
 use Rattle.osc_share.specs.Walk.{IsFirst, pages_from}
 
 -- a page below the shadows is canonical, and is its own number
-low_page : (top q : ℕ) → IsTop top → q < first_shadow_page → (is_canonical (suc top) q ≡ true) × (number_of (suc top) q ≡ q)
-low_page top q range s = at_top (λ t. (is_canonical (suc t) q ≡ true) × (number_of (suc t) q ≡ q)) top range
-    (grind (arith, nat_tests, s), omega arith)
-    (grind (arith, nat_tests, s), omega arith)
-
-low_mapping : (t : KeptTables) (q : ℕ) → IsTop t.top → q < first_shadow_page → mapping_of t q ≡ mapping_at t.pages q
-low_mapping t q range s = let h = low_page t.top q range s in rw (h.0, h.1) refl
+pub low_mapping : (t : KeptTables) (q : ℕ) → IsTop t.top → q < first_shadow_page → mapping_of t q ≡ mapping_at t.pages q
+low_mapping t q range s = let h = low_page t.top q range (omega (arith, s)) in rw (h.canonical, h.number) refl
 
 abbrev sieve : ℕ → List Mapped → List Mapped
 sieve from ms = filter (λ (m : Mapped). is_within from first_shadow_page m.number) ms

@@ -4,17 +4,21 @@
 //! Clauses see `Regions` as a list with a number for each frame of the machine.
 #![tactic(auto)]
 
-ghost use Rattle.std.specs.Prelude.{◌≡◌, ◌+◌, ◌<◌, length, slice_set, All, IfOk, MatchOption, []};
+ghost use Rattle.std.specs.Prelude.{◌≡◌, ◌+◌, ◌<◌, ◌≤◌, length, slice_set, All, IfOk, MatchOption, []};
 ghost use Rattle.osc_frames.specs.Free.{IsTaken};
-ghost use Rattle.osc_space.specs.Share.{no_regions, holders, shared_frames, drop_frame, join, leave};
+ghost use Rattle.osc_space.specs.Share.{no_regions, holders, hold, shared_frames, drop_frame, join, leave};
 ghost use Rattle.osc_share.specs.Holding.{AreDifferent, CanJoin, IsHeld, regions_and_free};
+ghost use Rattle.osc_share.specs.InRow.{AreUnheld};
 ghost use Rattle.osc_share.specs.Walk.{IsFirst, pages_from};
+
+mod sharing;
 
 use osc_frames::Frames;
 use osc_paging::Mapped;
 use osc_tables::Tables;
 use osc_word::Frame;
 use osc_word::address_map::{FIRST_SHADOW_PAGE, FIRST_SHARED_PAGE};
+pub use sharing::{SharePlan, plan_share};
 use std::alloc::{AllocError, Global};
 use std::marker::Model;
 
@@ -75,6 +79,17 @@ impl Regions {
         self.counts[frame as usize] += 1;
     }
 
+    /// Each of these frames, which nobody holds yet, is held.
+    fn hold_all(&mut self, taken: &[Frame])
+        requires few { length taken.now ≤ 4096 }
+        requires unheld { AreUnheld self.old taken.now }
+        ensures { self.new ≡ hold taken.now self.old }
+    {
+        for frame in taken {
+            self.hold(*frame);
+        }
+    }
+
     /// A child holds the frames of its shared pages once more, when its tables were copied.
     #[tactic(auto, unfolding(osc_space::specs::Share::join))]
     pub fn join(&mut self, child: &Tables)
@@ -120,5 +135,7 @@ impl Regions {
     }
 }
 
+#[cfg(test)]
+mod share_tests;
 #[cfg(test)]
 mod tests;
