@@ -1,5 +1,5 @@
 -- Canonical pages and their numbers.
-use Rattle.std.proofs.Common.{ℕ, suc, ◌≡◌, ◌≢◌, ◌<◌, ◌≤◌, ◌+◌, ◌-◌, ◌^◌, ◌==◌, ltb, Bool, true, false, cond, List, [], ◌∷◌, Option, Some, None, IsTrue, arith, refl, sym, ◌∙◌, subst, length, get_or, ◌⊎◌, ⊎_elim}
+use Rattle.std.proofs.Common.{ℕ, suc, ◌≡◌, ◌≢◌, ◌<◌, ◌≤◌, ◌+◌, ◌-◌, ◌^◌, ◌==◌, ltb, Bool, true, false, cond, List, [], ◌∷◌, Option, Some, None, IsTrue, arith, refl, sym, ◌∙◌, subst, ◌⊎◌, ⊎_elim}
 use Rattle.std.specs.Prelude.{IsSome}
 use Rattle.std.proofs.lemmas.Bool.Decides.{nat_tests}
 use Rattle.osc_sv39.specs.Walk.{is_canonical, number_of}
@@ -83,11 +83,6 @@ one_half top first count range s all = ⊎_elim low high (halves top first range
         (ends_before top first count 4503599627370496 l.1 (ends top range).1 all)
 
 -- ---- the least page from another on
-pub none_from : (top from q : ℕ) → IsTop top → least_from top from ≡ None → from ≤ q → is_canonical (suc top) q ≡ false
-none_from top from q range = at_top (λ t. least_from t from ≡ None → from ≤ q → is_canonical (suc t) q ≡ false) top range
-    (λ e s. grind (arith, nat_tests, e))
-    (λ e s. grind (arith, nat_tests, e))
-
 -- the number from another page on
 pub record StartsAt (top from q n : ℕ) : Type 0 where
   pub up : from ≤ q → n ≤ number_of (suc top) q
@@ -195,9 +190,6 @@ unmapped t q h = pick (mapping_of t q) h
     pick : (x : Option Mapping) → (IsSome x → ⊥) → x ≡ None
     pick None h = refl
     pick (Some m) h = absurd (h refl)
-
-pub no_page_from : (t : KeptTables) (from : ℕ) → IsTop t.top → least_from t.top from ≡ None → NoneFrom t from
-no_page_from t from range e q s = rw (none_from t.top from q range e s) refl
 
 pub no_next_page : (t : KeptTables) (from n : ℕ) → IsTop t.top → least_from t.top from ≡ Some n → least_number n t.pages ≡ None → NoneFrom t from
 no_next_page t from n range e none q s = unmapped t q (λ h. (let m = canonical_mapped t q h in let b = some_from t.top from q n range e m.0 in m.1 (least_none n (number_of (levels_of t) q) t.pages none (b.up s))))

@@ -1,5 +1,5 @@
 -- The slots of pages: looks, changes at the place of a number, and closed gaps.
-use Rattle.std.proofs.Common.{ℕ, zero, suc, ◌≡◌, ◌≢◌, ◌<◌, ◌≤◌, ◌+◌, ◌-◌, ◌==◌, ltb, Bool, true, false, cond, is_some, is_none, List, [], ◌∷◌, Option, Some, None, IsSome, IfSome, All, arith, refl, ap, sym, ◌∙◌, subst, add-one, drop-cons, drop_of_length-le, drop, take, set, insert, filter, length, get_or}
+use Rattle.std.proofs.Common.{ℕ, zero, suc, ◌≡◌, ◌≢◌, ◌<◌, ◌≤◌, ◌+◌, ◌-◌, ◌==◌, ltb, Bool, true, false, cond, is_some, is_none, List, [], ◌∷◌, Option, Some, None, IsSome, IfSome, All, arith, refl, ap, sym, ◌∙◌, subst, drop, take, set, insert, filter, length, get_or}
 use Rattle.std.specs.Prelude.{map}
 use Rattle.std.proofs.lemmas.Bool.Decides.{nat_tests}
 use Rattle.std.proofs.lemmas.List.Elements.{All-head, All-tail}
@@ -357,12 +357,6 @@ pub SlotsAscend-closed : (ss : List Slot) → SlotsAscend 0 ss → SlotsAscend 0
 SlotsAscend-closed ss a = closed_ascends 0 ss a
 
 -- ---- the first page from a place on
-pub pages_in-drop : (ss : List Slot) (i : ℕ) (d : Slot) → i < length ss → pages_in (drop i ss) ≡ page_before (get_or ss i d).number (get_or ss i d).mapping (pages_in (drop (i + 1) ss))
-pages_in-drop ss i d l = rw (add-one, drop-cons ss i d) refl
-
-pub pages_in-end : (ss : List Slot) (i : ℕ) → length ss ≤ i → pages_in (drop i ss) ≡ []
-pages_in-end ss i l = rw (drop_of_length-le ss l) refl
-
 least_first : (low q : ℕ) (ss : List Slot) → SlotsAscend low ss → q ≤ low → first_number (pages_in ss) ≡ least_number q (pages_in ss)
 least_first low q [] a l = refl
 least_first low q (s ∷ ss) a l = go s.mapping (least_first (suc s.number) q ss a.1 (omega (arith, a.0)))

@@ -22,7 +22,8 @@ struct Slot {
     mapping: Option<Mapping>,
 }
 
-/// Mapped pages, with room for so many. Gaps have room of their own beside them.
+/// Mapped pages, with room for so many. There is memory for as many gaps beside them, so that a list
+/// that is full of pages need not be closed at each change.
 #[derive(Drop)]
 pub struct PageList {
     slots: Vec<Slot>,
@@ -233,14 +234,14 @@ impl PageList {
         self.room - self.mapped
     }
 
-    /// The mapping of the page of a number.
+    /// The mapping of the page of a number; None exactly where it is not mapped.
     pub fn at(&self, number: u64) -> Option<Mapping>
         ensures { result ≡ mapping_at self.now.pages number }
     {
         mapping_at(&self.slots, number)
     }
 
-    /// The least number of a page at or above another.
+    /// The least number of a page at or above another; None exactly where there is none.
     pub fn next(&self, from: u64) -> Option<u64>
         ensures { result ≡ least_number from self.now.pages }
     {
@@ -258,7 +259,7 @@ impl PageList {
         self.mapped += 1;
     }
 
-    /// Takes a page away.
+    /// Takes a page away, where it is mapped.
     pub fn remove(&mut self, number: u64)
         ensures { self.new ≡ record self.old { pages = without_page number self.old.pages } }
     {

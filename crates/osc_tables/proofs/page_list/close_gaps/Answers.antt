@@ -1,5 +1,5 @@
 -- The slots that are left are the pages.
-use Rattle.std.proofs.Common.{rules, sym, ◌∙◌, ◌≡◌, ap, filter, length}
+use Rattle.std.proofs.Common.{rules, ◌∙◌, ◌≡◌, ap, filter, length}
 use Rattle.std.proofs.lemmas.Fn.{filter_same}
 use Rattle.osc_tables.proofs.PagePlaces.{is_page, pages_in-closed, length-closed, SlotsAscend-closed}
 use Rattle.osc_tables.proofs.page_list.close_gaps.Goals as goal

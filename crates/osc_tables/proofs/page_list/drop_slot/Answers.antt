@@ -1,6 +1,6 @@
 -- The page that stands at the place becomes a gap.
-use Rattle.std.proofs.Common.{arith, ◌∙◌, ◌≡◌, ap, sym, set, length}
-use Rattle.osc_tables.proofs.PagePlaces.{gap_slot, made_gap, stands_within}
+use Rattle.std.proofs.Common.{arith, ◌∙◌}
+use Rattle.osc_tables.proofs.PagePlaces.{made_gap, stands_within}
 use Rattle.osc_tables.proofs.page_list.drop_slot.Goals as goal
 
 pub index_mut-requires : goal.index_mut-requires

@@ -1,5 +1,5 @@
 -- At its place no page has the number.
-use Rattle.std.proofs.Common.{arith, sym, ◌∙◌, rules}
+use Rattle.std.proofs.Common.{arith, sym, ◌∙◌}
 use Rattle.osc_tables.proofs.PagePlaces.{mapping_at-found, mapping_at-missed, none_unless, gap_slot}
 use Rattle.osc_tables.proofs.page_list.find_page.Goals as goal
 use Rattle.osc_tables.proofs.page_list.find_page.Goals.{else-slot-number-via-then-slot-number+else-is_some, else-slot-number-via-else-slot-number}

@@ -1,6 +1,5 @@
 -- Into a gap, or between its neighbours.
-use Rattle.std.proofs.Common.{◌≡◌, ◌-◌, ◌∙◌, sym, true, false}
-use Rattle.osc_tables.specs.Slots.{is_gap, slot_place}
+use Rattle.std.proofs.Common.{◌∙◌, sym}
 use Rattle.osc_tables.proofs.PagePlaces.{filled_gap, moved_gap, inserted_slot}
 use Rattle.osc_tables.proofs.page_list.put_slot.Goals as goal
 

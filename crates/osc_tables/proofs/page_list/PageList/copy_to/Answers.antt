@@ -1,6 +1,5 @@
 -- The copy has the same slots, and other frames.
 use Rattle.std.proofs.Common.{◌≡◌, ◌∙◌, ap, sym, refl, arith, length}
-use Rattle.osc_paging.specs.TableChanges.{renamed_page}
 use Rattle.osc_tables.specs.Listed.{Listed}
 use Rattle.osc_tables.specs.Slots.{pages_in, renamed_slot}
 use Rattle.osc_tables.proofs.PagePlaces.{SlotsAscend-renamed, pages_in-renamed, length-mapped, length-renamed}

@@ -1,5 +1,5 @@
 -- A page more, and one slot more at most.
-use Rattle.std.proofs.Common.{◌≡◌, ◌+◌, ◌<◌, ◌∙◌, ap, arith, length}
+use Rattle.std.proofs.Common.{◌∙◌, ap, arith, length}
 use Rattle.osc_tables.specs.Slots.{pages_in}
 use Rattle.osc_tables.proofs.KeptChanges.{length-with_page}
 use Rattle.osc_tables.proofs.page_list.PageList.put.Goals as goal
