@@ -1,5 +1,5 @@
 -- Canonical pages and their numbers.
-use Rattle.std.proofs.Common.{ℕ, suc, ◌≡◌, ◌≢◌, ◌<◌, ◌≤◌, ◌+◌, ◌-◌, ◌^◌, ◌==◌, ltb, Bool, true, false, cond, List, [], ◌∷◌, Option, Some, None, IsTrue, arith, refl, sym, ◌∙◌, subst, length, get_or, ◌⊎◌, ⊎_elim}
+use Rattle.std.proofs.Common.{ℕ, suc, ◌≡◌, ◌≢◌, ◌<◌, ◌≤◌, ◌+◌, ◌-◌, ◌^◌, ◌==◌, ltb, Bool, true, false, cond, List, [], ◌∷◌, Option, Some, None, IsTrue, arith, refl, sym, ◌∙◌, subst, ◌⊎◌, ⊎_elim}
 use Rattle.std.specs.Prelude.{IsSome}
 use Rattle.std.proofs.lemmas.Bool.Decides.{nat_tests}
 use Rattle.osc_sv39.specs.Walk.{is_canonical, number_of}
@@ -7,10 +7,10 @@ use Rattle.osc_sv39.specs.declared.entries.Mapping.{Mapping}
 use Rattle.osc_paging.specs.declared.Mapped.{Mapped}
 use Rattle.osc_paging.specs.KeptTables.{KeptTables, levels_of, canonical_page, page_numbered, mapping_at, mapping_of}
 use Rattle.osc_tables.specs.Inside.{IsTop, AscendFrom, PagesBelow}
-use Rattle.osc_tables.specs.Places.{half, place_for, least_from}
+use Rattle.osc_tables.specs.Places.{half, least_from}
+use Rattle.osc_tables.specs.Listed.{least_number}
 use Rattle.osc_tables.specs.Calls.{AllCanonical, IsNextPage, MapsTo, NoneFrom}
 use Rattle.osc_tables.proofs.KeptFacts.{at_top}
-use Rattle.osc_tables.proofs.PagePlaces.{mapping_at-found, ascends-high}
 
 -- a canonical page lies in the lower or in the upper half
 pub record Halves (top q : ℕ) : Type 0 where
@@ -83,11 +83,6 @@ one_half top first count range s all = ⊎_elim low high (halves top first range
         (ends_before top first count 4503599627370496 l.1 (ends top range).1 all)
 
 -- ---- the least page from another on
-pub none_from : (top from q : ℕ) → IsTop top → least_from top from ≡ None → from ≤ q → is_canonical (suc top) q ≡ false
-none_from top from q range = at_top (λ t. least_from t from ≡ None → from ≤ q → is_canonical (suc t) q ≡ false) top range
-    (λ e s. grind (arith, nat_tests, e))
-    (λ e s. grind (arith, nat_tests, e))
-
 -- the number from another page on
 pub record StartsAt (top from q n : ℕ) : Type 0 where
   pub up : from ≤ q → n ≤ number_of (suc top) q
@@ -114,28 +109,68 @@ mapped_above low k (m ∷ ms) a h = pick (m.number == k) refl (mapped_above (suc
     pick true e on = let d : m.number ≡ k = grind (arith, nat_tests, e) in omega (arith, a.0)
     pick false e on = let d = on (rw e at h) in omega (arith, a.0)
 
-least_at : (low n k : ℕ) (ms : List Mapped) (d : Mapped) → AscendFrom low ms → n ≤ k → mapping_at ms k ≢ None → (place_for n ms < length ms) × ((get_or ms (place_for n ms) d).number ≤ k)
-least_at low n k [] d a s h = absurd (h refl)
-least_at low n k (m ∷ ms) d a s h = pick (ltb m.number n) refl (least_at (suc m.number) n k ms d a.1 s)
-  where
-    pick : (b : Bool) → ltb m.number n ≡ b → (mapping_at ms k ≢ None → (place_for n ms < length ms) × ((get_or ms (place_for n ms) d).number ≤ k)) → (place_for n (m ∷ ms) < length (m ∷ ms)) × ((get_or (m ∷ ms) (place_for n (m ∷ ms)) d).number ≤ k)
-    pick true e on =
-        let other : (m.number == k) ≡ false = grind (arith, nat_tests, e) in
-        let r = on (rw other at h) in
-        rw e (omega (arith, r.0), r.1)
-    pick false e on = rw e (omega arith, first (m.number == k) refl)
-      where
-        first : (b : Bool) → (m.number == k) ≡ b → m.number ≤ k
-        first true f = grind (arith, nat_tests, f)
-        first false f = let up = mapped_above (suc m.number) k ms a.1 (rw f at h) in omega arith
+no_more : (n k : ℕ) → least_number n [] ≡ Some k → ⊥
+no_more n k e = cc
 
-stands_above : (n : ℕ) (ms : List Mapped) (d : Mapped) → place_for n ms < length ms → n ≤ (get_or ms (place_for n ms) d).number
-stands_above n [] d s = absurd (omega arith)
-stands_above n (m ∷ ms) d s = pick (ltb m.number n) refl (stands_above n ms d)
+-- it is no lower, it is mapped, and it is in the range
+least_above : (n k : ℕ) (ms : List Mapped) → least_number n ms ≡ Some k → n ≤ k
+least_above n k [] e = absurd (no_more n k e)
+least_above n k (m ∷ ms) e = pick (ltb m.number n) refl (least_above n k ms)
   where
-    pick : (b : Bool) → ltb m.number n ≡ b → (place_for n ms < length ms → n ≤ (get_or ms (place_for n ms) d).number) → n ≤ (get_or (m ∷ ms) (place_for n (m ∷ ms)) d).number
-    pick true e on = rw e (on (let t = rw e at s in omega arith))
-    pick false e on = rw e (grind (arith, nat_tests, e))
+    pick : (b : Bool) → ltb m.number n ≡ b → (least_number n ms ≡ Some k → n ≤ k) → n ≤ k
+    pick true f on = on (rw f at e)
+    pick false f on =
+        let here : Some m.number ≡ Some k = rw f at e in
+        let same : m.number ≡ k = cc in
+        grind (arith, nat_tests, f, same)
+
+least_mapped : (n k : ℕ) (ms : List Mapped) → least_number n ms ≡ Some k → IsSome (mapping_at ms k)
+least_mapped n k [] e = absurd (no_more n k e)
+least_mapped n k (m ∷ ms) e = pick (m.number == k) refl (ltb m.number n) refl (least_mapped n k ms)
+  where
+    pick : (b : Bool) → (m.number == k) ≡ b → (c : Bool) → ltb m.number n ≡ c → (least_number n ms ≡ Some k → IsSome (mapping_at ms k)) → IsSome (mapping_at (m ∷ ms) k)
+    pick true f c g on = rw f refl
+    pick false f true g on = rw f (on (rw g at e))
+    pick false f false g on =
+        let here : Some m.number ≡ Some k = rw g at e in
+        let same : m.number ≡ k = cc in
+        absurd (grind (arith, nat_tests, f, same))
+
+pub least_small : (high n k : ℕ) (ms : List Mapped) → PagesBelow high ms → least_number n ms ≡ Some k → k < high
+least_small high n k [] w e = absurd (no_more n k e)
+least_small high n k (m ∷ ms) w e = pick (ltb m.number n) refl (least_small high n k ms w.1)
+  where
+    pick : (b : Bool) → ltb m.number n ≡ b → (least_number n ms ≡ Some k → k < high) → k < high
+    pick true f on = on (rw f at e)
+    pick false f on =
+        let here : Some m.number ≡ Some k = rw f at e in
+        let same : m.number ≡ k = cc in
+        omega (arith, w.0, same)
+
+-- no mapped page from there on is lower, and where there is none, none is mapped
+least_least : (low n k q : ℕ) (ms : List Mapped) → AscendFrom low ms → least_number n ms ≡ Some k → n ≤ q → mapping_at ms q ≢ None → k ≤ q
+least_least low n k q [] a e s h = absurd (no_more n k e)
+least_least low n k q (m ∷ ms) a e s h = pick (ltb m.number n) refl (least_least (suc m.number) n k q ms a.1)
+  where
+    pick : (b : Bool) → ltb m.number n ≡ b → (least_number n ms ≡ Some k → n ≤ q → mapping_at ms q ≢ None → k ≤ q) → k ≤ q
+    pick true f on =
+        let other : (m.number == q) ≡ false = grind (arith, nat_tests, f) in
+        on (rw f at e) s (rw other at h)
+    pick false f on =
+        let here : Some m.number ≡ Some k = rw f at e in
+        let same : m.number ≡ k = cc in
+        let up = mapped_above m.number q (m ∷ ms) (omega arith, a.1) h in
+        omega (arith, same, up)
+
+least_none : (n q : ℕ) (ms : List Mapped) → least_number n ms ≡ None → n ≤ q → mapping_at ms q ≡ None
+least_none n q [] e s = refl
+least_none n q (m ∷ ms) e s = pick (ltb m.number n) refl (least_none n q ms)
+  where
+    pick : (b : Bool) → ltb m.number n ≡ b → (least_number n ms ≡ None → n ≤ q → mapping_at ms q ≡ None) → mapping_at (m ∷ ms) q ≡ None
+    pick true f on =
+        let other : (m.number == q) ≡ false = grind (arith, nat_tests, f) in
+        rw other (on (rw f at e) s)
+    pick false f on = absurd (let here : Some m.number ≡ None = rw f at e in cc)
 
 some_there : (x : Option Mapping) → IsSome x → x ≢ None
 some_there None h = cc
@@ -156,43 +191,23 @@ unmapped t q h = pick (mapping_of t q) h
     pick None h = refl
     pick (Some m) h = absurd (h refl)
 
-pub no_page_from : (t : KeptTables) (from : ℕ) → IsTop t.top → least_from t.top from ≡ None → NoneFrom t from
-no_page_from t from range e q s = rw (none_from t.top from q range e s) refl
+pub no_next_page : (t : KeptTables) (from n : ℕ) → IsTop t.top → least_from t.top from ≡ Some n → least_number n t.pages ≡ None → NoneFrom t from
+no_next_page t from n range e none q s = unmapped t q (λ h. (let m = canonical_mapped t q h in let b = some_from t.top from q n range e m.0 in m.1 (least_none n (number_of (levels_of t) q) t.pages none (b.up s))))
 
-pub no_next_page : (t : KeptTables) (from n : ℕ) → IsTop t.top → AscendFrom 0 t.pages → least_from t.top from ≡ Some n → length t.pages ≤ place_for n t.pages → NoneFrom t from
-no_next_page t from n range a e p q s = unmapped t q (λ h. (let m = canonical_mapped t q h in let b = some_from t.top from q n range e m.0 in let r = least_at 0 n (number_of (levels_of t) q) t.pages spare_page a (b.up s) m.1 in absurd (omega (arith, r.0))))
-  where
-    spare_page : Mapped
-    spare_page = record { number = 0; mapping = record { frame = 0; bits = record { 0 = 0 } } }
-
-pub next_page_at : (t : KeptTables) (from n : ℕ) (d : Mapped) → IsTop t.top → AscendFrom 0 t.pages → PagesBelow (512 ^ levels_of t) t.pages → least_from t.top from ≡ Some n → place_for n t.pages < length t.pages → IsNextPage t from (page_numbered t (get_or t.pages (place_for n t.pages) d).number)
-next_page_at t from n d range a w e p =
-    let k = (get_or t.pages (place_for n t.pages) d).number in
-    let small : k < 512 ^ levels_of t = ascends-high (512 ^ levels_of t) t.pages (place_for n t.pages) d w p in
-    let back = numbered t.top k range small in
-    let above = stands_above n t.pages d p in
-    let found = mapping_at-found k t.pages (place_for n t.pages) d a p refl in
+pub next_page_at : (t : KeptTables) (from n k : ℕ) → IsTop t.top → AscendFrom 0 t.pages → PagesBelow (512 ^ levels_of t) t.pages → least_from t.top from ≡ Some n → least_number n t.pages ≡ Some k → IsNextPage t from (page_numbered t k)
+next_page_at t from n k range a w e d =
+    let back = numbered t.top k range (least_small (512 ^ levels_of t) n k t.pages w d) in
     record {
-      above = (some_from t.top from (page_numbered t k) n range e back.0).back (rw back.1 above);
-      mapped = rw (back.0, back.1, found) refl;
-      least = λ q s h. least_page k small q s (canonical_mapped t q h);
+      above = (some_from t.top from (page_numbered t k) n range e back.0).back (rw back.1 (least_above n k t.pages d));
+      mapped = rw (back.0, back.1) (least_mapped n k t.pages d);
+      least = λ q s h. least_page q s (canonical_mapped t q h);
     }
   where
-    least_page : (k : ℕ) → k < 512 ^ levels_of t → (q : ℕ) → from ≤ q → (is_canonical (levels_of t) q ≡ true) × (mapping_at t.pages (number_of (levels_of t) q) ≢ None) → page_numbered t (get_or t.pages (place_for n t.pages) d).number ≤ q
-    least_page k small q s m =
+    least_page : (q : ℕ) → from ≤ q → (is_canonical (levels_of t) q ≡ true) × (mapping_at t.pages (number_of (levels_of t) q) ≢ None) → page_numbered t k ≤ q
+    least_page q s m =
         let b = some_from t.top from q n range e m.0 in
-        let r = (least_at 0 n (number_of (levels_of t) q) t.pages d a (b.up s) m.1).1 in
-        let up = rises t.top (get_or t.pages (place_for n t.pages) d).number (number_of (levels_of t) q) range r in
-        subst (λ x. page_numbered t (get_or t.pages (place_for n t.pages) d).number ≤ x) (numbered_back t.top q range m.0) up
-
--- the same of the page that stands at the place
-pub next_page_found : (t : KeptTables) (from n i : ℕ) (m : Mapped) → IsTop t.top → AscendFrom 0 t.pages → PagesBelow (512 ^ levels_of t) t.pages → least_from t.top from ≡ Some n → i ≡ place_for n t.pages → i < length t.pages → m ≡ get_or t.pages i m → IsNextPage t from (page_numbered t m.number)
-next_page_found t from n i m range a w e p s d =
-    let h = rw (← p) at (next_page_at t from n m range a w e (rw (← p) s)) in
-    subst (λ (x : Mapped). IsNextPage t from (page_numbered t x.number)) (sym d) h
-
-pub next_page_small : (high : ℕ) (ms : List Mapped) (i : ℕ) (m : Mapped) → PagesBelow high ms → i < length ms → m ≡ get_or ms i m → m.number < high
-next_page_small high ms i m a s d = subst (λ (x : Mapped). x.number < high) (sym d) (ascends-high high ms i m a s)
+        let up = rises t.top k (number_of (levels_of t) q) range (least_least 0 n k (number_of (levels_of t) q) t.pages a d (b.up s) m.1) in
+        subst (λ x. page_numbered t k ≤ x) (numbered_back t.top q range m.0) up
 
 -- ---- what is mapped after a change
 same_page : (top p q : ℕ) → IsTop top → is_canonical (suc top) p ≡ true → is_canonical (suc top) q ≡ true → (number_of (suc top) p == number_of (suc top) q) ≡ (p == q)

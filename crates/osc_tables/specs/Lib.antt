@@ -1,6 +1,8 @@
 pub mod Calls
 pub mod Inside
+pub mod Listed
 pub mod Places
+pub mod Slots
 pub use Rattle.osc_paging.specs.KeptTables
 pub use Rattle.osc_paging.specs.TableChanges
 pub use Rattle.osc_paging.specs.Agree

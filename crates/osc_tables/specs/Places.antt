@@ -1,22 +1,11 @@
 -- Where a page or a table stands, or would stand, in the order.
 use Rattle.std.specs.Prelude.{ℕ, suc, ◌≡◌, ◌<◌, ◌-◌, ◌*◌, ◌^◌, true, nat_lt, nat_le, Option, Some, None, length, slice_index_or, List, [], ◌∷◌, if◌then◌else◌}
-use Rattle.osc_paging.specs.declared.Mapped.{Mapped}
 use Rattle.osc_paging.specs.declared.Piece.{Piece}
 use Rattle.osc_paging.specs.declared.TableFrame.{TableFrame}
 use Rattle.osc_paging.specs.declared.TablePlace.{TablePlace}
 use Rattle.osc_sv39.specs.Walk.{number_of}
 use Rattle.osc_paging.specs.KeptTables.{canonical_page, is_piece}
 use Rattle.osc_paging.specs.TableChanges.{is_before}
-
--- how many pages have a lower number, in an ascending list
-abbrev pub place_for : ℕ → List Mapped → ℕ
-place_for number [] = 0
-place_for number (m ∷ ms) = if nat_lt m.number number then suc (place_for number ms) else 0
-
--- the page of this number stands at this place
-pub record StandsAt (number : ℕ) (ms : List Mapped) (i : ℕ) : Type 0 where
-  pub within : i < length ms
-  pub same : (d : Mapped) → (slice_index_or ms i d).number ≡ number
 
 -- how many pages are in the lower half of the range; `top` is the level of the topmost table
 abbrev pub half : ℕ → ℕ

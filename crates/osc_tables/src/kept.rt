@@ -19,10 +19,10 @@ ghost use Rattle.osc_tables.specs.Places.{place_below};
 
 use crate::needs::need_below;
 use crate::numbers::{leaf_number, least_from, number_in_range, number_of, page_of, piece_over};
-use crate::page_list::{copy_pages, drop_page, mapping_at, place_for, put_page};
+use crate::page_list::PageList;
 use crate::table_list::{copy_tables, drop_table, frame_of, piece_of, put_table};
 use osc_frames::Frames;
-use osc_paging::{Mapped, Piece, TableFrame, TablePlace};
+use osc_paging::{Piece, TableFrame, TablePlace};
 use osc_sv39::{Mapping, PteEntry, leaf, table};
 use osc_word::{Job, Jobs, WordAt};
 use std::alloc::{AllocError, Global};
@@ -34,10 +34,9 @@ use std::marker::Model;
 pub struct Tables {
     /// The level of the topmost table, one less than the number of levels.
     top: u8,
-    pages: Vec<Mapped>,
+    pages: PageList,
     tables: Vec<TableFrame>,
     aside: Vec<TableFrame>,
-    room: u32,
     count: u32,
 }
 
@@ -49,10 +48,10 @@ impl Model for Tables {
 
     ghost Value = { KeptTables };
 
-    ghost view = { λ t. kept t.top t.pages.items t.tables.items t.aside.items t.room t.count };
+    ghost view = { λ t. kept t.top t.pages.pages t.tables.items t.aside.items t.pages.room t.count };
 
-    ghost invariant = { λ t. IsKept t.top t.pages.items t.tables.items t.aside.items t.room t.count
-        × (t.room ≤ vec_capacity t.pages) × (t.count ≤ vec_capacity t.tables) × (t.count ≤ vec_capacity t.aside) };
+    ghost invariant = { λ t. IsKept t.top t.pages.pages t.tables.items t.aside.items t.pages.room t.count
+        × (t.count ≤ vec_capacity t.tables) × (t.count ≤ vec_capacity t.aside) };
 }
 
 /// The word of what may be mapped.
@@ -140,10 +139,9 @@ impl Tables {
     {
         Ok(Tables {
             top: levels - 1,
-            pages: Vec::with_capacity(alloc, pages as usize)?,
+            pages: PageList::new(alloc, pages)?,
             tables: Vec::with_capacity(alloc, frames as usize)?,
             aside: Vec::with_capacity(alloc, frames as usize)?,
-            room: pages,
             count: frames,
         })
     }
@@ -161,14 +159,14 @@ impl Tables {
         ensures { result ≡ mapping_of self.now page }
     {
         let number = number_in_range(page, self.top)?;
-        mapping_at(&self.pages, number)
+        self.pages.at(number)
     }
 
     /// How many more pages may be mapped.
     pub fn left(&self) -> u32
         ensures { result ≡ left self.now }
     {
-        self.room - self.pages.len() as u32
+        self.pages.left()
     }
 
     /// The place of the table in a frame; None exactly where the frame is no table of this
@@ -193,7 +191,7 @@ impl Tables {
             Some(piece) => {
                 let number = piece.number * 512 + u64::from(index);
                 if piece.level == 0 {
-                    page_word(mapping_at(&self.pages, number))
+                    page_word(self.pages.at(number))
                 } else {
                     link_word(frame_of(&self.tables, piece.level - 1, number))
                 }
@@ -207,13 +205,8 @@ impl Tables {
         ensures order { IsOrdered self.now }
     {
         let number = least_from(from, self.top)?;
-        let at = place_for(&self.pages, number);
-        if at < self.pages.len() {
-            let found = self.pages[at].number;
-            Some(page_of(found, self.top))
-        } else {
-            None
-        }
+        let found = self.pages.next(number)?;
+        Some(page_of(found, self.top))
     }
 
     /// The table frames that mapping so many pages newly takes.
@@ -306,7 +299,7 @@ impl Tables {
     {
         self.link_down(number, frames, jobs);
         if let Some(table) = frame_of(&self.tables, 0, number / 512) {
-            put_page(&mut self.pages, number, mapping);
+            self.pages.put(number, mapping);
             jobs.push(put_word(table, number, leaf(mapping.frame, mapping.bits)));
         }
     }
@@ -347,7 +340,7 @@ impl Tables {
         ensures pages { self.new ≡ record self.old { pages = without_page number self.old.pages } }
         ensures room { jobs.new.room ≡ jobs.old.room }
     {
-        drop_page(&mut self.pages, number);
+        self.pages.remove(number);
         if let Some(table) = frame_of(&self.tables, 0, number / 512) {
             jobs.push(put_word(table, number, 0));
         }
@@ -456,7 +449,7 @@ impl Tables {
         requires names { CanRename self.now names.now }
         ensures { child.new ≡ renamed names.now self.now }
     {
-        copy_pages(&self.pages, &mut child.pages, names);
+        self.pages.copy_to(&mut child.pages, names);
         copy_tables(&self.tables, &mut child.tables, names);
     }
 }

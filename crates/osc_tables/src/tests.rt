@@ -67,7 +67,8 @@ fn map_on(
 /// Unmaps a page that is mapped.
 fn unmap_on(rt: &impl Abort, tables: &mut Tables, page: u64, frames: &Frames, jobs: &mut Jobs)
     requires { HasTaken tables.old frames.now }
-    ensures { HasTaken tables.new frames.now }
+    ensures opened { IsOpen tables.old → IsOpen tables.new }
+    ensures taken { HasTaken tables.new frames.now }
 {
     assert!(rt; tables.at(page).is_some());
     assert!(rt; jobs.spare() >= 1);
@@ -415,5 +416,111 @@ fn closed_and_copied(rt: HostRuntime) -> Result<(), Fail> {
     tables.close(&mut frames);
     assert_eq!(rt; frames.free_count(), 64);
     assert_eq!(rt; tables.table_at(root), None);
+    Ok(())
+}
+
+/// Strides over sixteen pages, and how many pages each goes over.
+const STRIDES: [(u8, u8); 10] = [
+    (1, 16),
+    (1, 16),
+    (15, 16),
+    (15, 16),
+    (1, 16),
+    (3, 9),
+    (5, 16),
+    (7, 13),
+    (11, 16),
+    (1, 16),
+];
+
+/// Unmaps a page that is mapped, and maps one that is not, in the tables and in a plain list.
+fn toggle(
+    rt: &impl Abort,
+    tables: &mut Tables,
+    page: usize,
+    frame: u32,
+    frames: &mut Frames,
+    jobs: &mut Jobs,
+    pages: &mut [Option<Mapping>; 16],
+)
+    requires page { page < 16 }
+    requires opened { IsOpen tables.old }
+    requires taken { HasTaken tables.old frames.old }
+    ensures opened { IsOpen tables.new }
+    ensures taken { HasTaken tables.new frames.new }
+{
+    jobs.clear();
+    if pages[page].is_some() {
+        unmap_on(rt, tables, page as u64, frames, jobs);
+        pages[page] = None;
+    } else {
+        let mapping = Mapping {
+            frame,
+            bits: READ_WRITE,
+        };
+        map_on(rt, tables, page as u64, mapping, frames, jobs);
+        pages[page] = Some(mapping);
+    }
+}
+
+/// The tables say of each page what the plain list says.
+fn same_pages(rt: &impl Abort, tables: &Tables, pages: &[Option<Mapping>; 16]) {
+    let mut next = None;
+    let mut mapped = 0;
+    for passed in 0..16 {
+        let page = 15 - passed;
+        if pages[page].is_some() {
+            next = Some(page as u64);
+            mapped += 1;
+        }
+        assert_eq!(rt; tables.at(page as u64), pages[page]);
+        assert_eq!(rt; tables.next_page(page as u64), next);
+    }
+    assert_eq!(rt; tables.left(), 16 - mapped);
+}
+
+/// Goes over the pages in strides, so many times.
+fn toggle_in_strides(
+    rt: &impl Abort,
+    tables: &mut Tables,
+    stride: u8,
+    count: u8,
+    frames: &mut Frames,
+    jobs: &mut Jobs,
+    pages: &mut [Option<Mapping>; 16],
+)
+    requires opened { IsOpen tables.old }
+    requires taken { HasTaken tables.old frames.old }
+    ensures opened { IsOpen tables.new }
+    ensures taken { HasTaken tables.new frames.new }
+{
+    for step in 0..count {
+        let page = usize::from(step) * usize::from(stride) % 16;
+        let frame = u32::from(stride) * 16 + u32::from(step);
+        toggle(rt, tables, page, frame, frames, jobs, pages);
+        same_pages(rt, tables, pages);
+    }
+}
+
+/// Maps and unmaps sixteen pages, as many as there is room for, in many orders: the oldest first and
+/// the latest first, and in strides that leave gaps and fill or close them.
+#[test]
+fn gaps_made_and_closed(rt: HostRuntime) -> Result<(), Fail> {
+    let mut frames = Frames::new(rt.alloc(), 64)?;
+    let mut jobs = Jobs::new(rt.alloc(), 64)?;
+    let mut tables = Tables::new(rt.alloc(), 64, 16, 3)?;
+    open_on(&rt, &mut tables, &mut frames);
+    let mut pages = [None; 16];
+    for (stride, count) in STRIDES {
+        toggle_in_strides(
+            &rt,
+            &mut tables,
+            stride,
+            count,
+            &mut frames,
+            &mut jobs,
+            &mut pages,
+        );
+    }
     Ok(())
 }

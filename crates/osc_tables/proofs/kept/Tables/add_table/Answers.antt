@@ -10,8 +10,7 @@ invariant_of-self c =
     let level = rw (← c.self.view_is) at c.requires.level in
     let range = rw (← c.self.view_is) at c.requires.range in
     rw c.put_table.ensures.items (
-      kept-with_table c.self.inside.top c.self.inside.pages.items c.self.inside.tables.items c.self.inside.aside.items c.self.inside.room c.self.inside.count c.args.new c.self.invariant.0 fresh level range absent,
-      c.self.invariant.1,
-      omega (arith, c.self.invariant.2, c.put_table.ensures.capacity),
-      c.self.invariant.3,
+      kept-with_table c.self.inside.top c.self.inside.pages.pages c.self.inside.tables.items c.self.inside.aside.items c.self.inside.pages.room c.self.inside.count c.args.new c.self.invariant.0 fresh level range absent,
+      omega (arith, c.self.invariant.1, c.put_table.ensures.capacity),
+      c.self.invariant.2,
     )

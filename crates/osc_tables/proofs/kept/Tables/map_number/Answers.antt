@@ -4,27 +4,26 @@ use Rattle.osc_paging.specs.KeptTables.{KeptTables, mapping_at}
 use Rattle.osc_tables.proofs.KeptChanges.{kept-with_page}
 use Rattle.osc_tables.proofs.kept.Tables.map_number.Goals as goal
 
-pub put_page-requires-clause-room : goal.put_page-requires-clause-room
-put_page-requires-clause-room c =
+pub put-requires-clause-room : goal.put-requires-clause-room
+put-requires-clause-room c =
     let same = c.self.view_is ∙ c.link_down.ensures.rest in
-    let pages : length c.self.inside.pages.items ≡ length c.args.self.now.pages = ap (λ (t : KeptTables). length t.pages) same in
-    let room : c.self.inside.room ≡ c.args.self.now.room = ap (λ (t : KeptTables). t.room) same in
-    omega (arith, c.self.inside.pages.ok.0, c.self.invariant.1, c.requires.left)
+    let pages : length c.self.inside.pages.pages ≡ length c.args.self.now.pages = ap (λ (t : KeptTables). length t.pages) same in
+    let room : c.self.inside.pages.room ≡ c.args.self.now.room = ap (λ (t : KeptTables). t.room) same in
+    omega (arith, c.requires.left)
 
 pub invariant_of-self : goal.invariant_of-self
 invariant_of-self c =
     let same = c.self.view_is ∙ c.link_down.ensures.rest in
-    let pages : c.self.inside.pages.items ≡ c.args.self.now.pages = ap (λ (t : KeptTables). t.pages) same in
-    let long : length c.self.inside.pages.items ≡ length c.args.self.now.pages = ap length pages in
-    let room : c.self.inside.room ≡ c.args.self.now.room = ap (λ (t : KeptTables). t.room) same in
-    let none : mapping_at c.self.inside.pages.items c.args.number ≡ None = rw pages c.requires.unmapped in
+    let pages : c.self.inside.pages.pages ≡ c.args.self.now.pages = ap (λ (t : KeptTables). t.pages) same in
+    let long : length c.self.inside.pages.pages ≡ length c.args.self.now.pages = ap length pages in
+    let room : c.self.inside.pages.room ≡ c.args.self.now.room = ap (λ (t : KeptTables). t.room) same in
+    let none : mapping_at c.self.inside.pages.pages c.args.number ≡ None = rw pages c.requires.unmapped in
     let top : c.self.inside.top ≡ c.args.self.now.top = ap (λ (t : KeptTables). t.top) same in
     let range : c.args.number < 512 ^ suc c.self.inside.top = rw top c.requires.range in
-    rw c.put_page.ensures.items (
-      kept-with_page c.self.inside.top c.self.inside.pages.items c.self.inside.tables.items c.self.inside.aside.items c.self.inside.room c.self.inside.count c.args.number c.args.mapping c.self.invariant.0 (omega (arith, c.requires.left)) range none,
-      omega (arith, c.self.invariant.1, c.put_page.ensures.capacity),
+    rw c.put.ensures (
+      kept-with_page c.self.inside.top c.self.inside.pages.pages c.self.inside.tables.items c.self.inside.aside.items c.self.inside.pages.room c.self.inside.count c.args.number c.args.mapping c.self.invariant.0 (omega (arith, c.requires.left)) range none,
+      c.self.invariant.1,
       c.self.invariant.2,
-      c.self.invariant.3,
     )
 
 pub returns-in-Some-clause-taken : goal.returns-in-Some-clause-taken
