@@ -80,7 +80,7 @@ mapping_in pages first count i l =
     rw (slice_get-map (λ page. read_write_at (frame_at pages page)) (range_with_len first count) i)
     (rw (range_at first count i (first + i) l refl) refl)
 
-same_none : (x y : Option ℕ) → is_some x ≡ false → is_some y ≡ false → x ≡ y
+pub same_none : (x y : Option ℕ) → is_some x ≡ false → is_some y ≡ false → x ≡ y
 same_none None None e f = refl
 same_none None (Some b) e f = absurd (let z : ⊥ = grind (arith, f) in z)
 same_none (Some a) y e f = absurd (let z : ⊥ = grind (arith, e) in z)
