@@ -94,7 +94,7 @@ in_range test (suc count) first q = go (test first) refl (first == q) refl (in_r
     go false e false f later = grind (arith, nat_tests, later, f)
 
 -- ---- blocks
-found_held : (held : List Block) (user : ℕ) (block : Block) → block_of_user held user ≡ Some block → is_held held block ≡ true
+pub found_held : (held : List Block) (user : ℕ) (block : Block) → block_of_user held user ≡ Some block → is_held held block ≡ true
 found_held [] user block e = absurd (let z : ⊥ = grind (arith, e) in z)
 found_held (b ∷ held) user block e = go (b.start + 16 == user) refl (found_held held user block)
   where
@@ -156,7 +156,7 @@ module _ (batch : ℕ) (entries : ℕ → ℕ → ℕ) (words : List ℕ) (regio
   plain : PlainAgrees d.space
   plain = settled.parts.agrees.heap
 
-  at_slot : IsPlaced d.space.heap.frames block
+  pub at_slot : IsPlaced d.space.heap.frames block
   at_slot =
       let f = found d.space.heap.frames (λ b. is_block block b) d.space.heap.held settled.parts.heap.placed held in
       subst (λ (b : Block). IsPlaced d.space.heap.frames b) (sym (same_block block f.block f.passes)) f.placed
@@ -176,13 +176,13 @@ module _ (batch : ℕ) (entries : ℕ → ℕ → ℕ) (words : List ℕ) (regio
   shape : Unmaps d.space.tables gone.space.tables
   shape = list-shape emptied (tables_of d)
 
-  free_same : gone.free ≡ d.free
+  pub free_same : gone.free ≡ d.free
   free_same = list-free emptied (tables_of d)
 
   pages_left : (q : ℕ) → mapping_at gone.space.tables.pages q ≡ cond (is_in emptied q) None (mapping_at d.space.tables.pages q)
   pages_left q = list-pages emptied (tables_of d) q
 
-  trades : Trades d.space d.free gone.space gone.free
+  pub trades : Trades d.space d.free gone.space gone.free
   trades = let t = list-trades d.space emptied (tables_of d) all_high in record { count = t.count; each = t.each; shared = t.shared }
 
   frames : FramesFit gone.space gone.free

@@ -114,7 +114,7 @@ module _ (batch : ℕ) (entries : ℕ → ℕ → ℕ) (words : List ℕ) (regio
   room : IsRoom (room_of n)
   room = room_is_room n
 
-  enough_block : block_need d (room_of n) ≤ free_count d.free
+  pub enough_block : block_need d (room_of n) ≤ free_count d.free
   enough_block = let q = needs in omega (arith, q)
 
   plain : PlainAgrees d.space
@@ -178,17 +178,17 @@ module _ (batch : ℕ) (entries : ℕ → ℕ → ℕ) (words : List ℕ) (regio
       let s = settled.tables.small in
       omega (arith, less, c, s)))
 
-  plain_agrees : AgreesAfter entries words (tables_of plain_placed)
+  pub plain_agrees : AgreesAfter entries words (tables_of plain_placed)
   plain_agrees = map_pages-agrees entries words mappings first (tables_of filled) reads (placing.filled_agrees Plain batch entries words regions n d settled enough_block)
 
-  plain_trades : Trades d.space d.free plain_placed.space plain_placed.free
+  pub plain_trades : Trades d.space d.free plain_placed.space plain_placed.free
   plain_trades =
       let u = map_pages-trades filled.space mappings first (tables_of filled) (let h = high in omega (arith, h)) in
       let t = placing.place_trades Plain batch entries words regions n d settled enough_block in
       trades_both d.space filled.space plain_placed.space d.free filled.free plain_placed.free
       (record { count = t.count; each = t.each; shared = t.shared }) (record { count = u.count; each = u.each; shared = u.shared })
 
-  plain_takes : KeepsTaken d.free plain_placed.free
+  pub plain_takes : KeepsTaken d.free plain_placed.free
   plain_takes = record {
     size = plain_trades.count;
     taken = λ f e. map_pages-taken mappings first (tables_of filled) f ((placing.takes_only Plain batch entries words regions n d settled enough_block).taken f e);
