@@ -214,7 +214,7 @@ trim_where pages block bytes size k l =
 reads : (f : ℕ) → f < 4096 → ReadsAsLeaf (read_write_at f)
 reads f l = leaves_read_back f read_write (omega (arith, l)) (omega arith) refl
 
-all_read : (pages : List HeapPage) (count first : ℕ) → ((page : ℕ) → first ≤ page → page < first + count → frame_at pages page < 4096) → AllRead (mappings_of pages first count)
+pub all_read : (pages : List HeapPage) (count first : ℕ) → ((page : ℕ) → first ≤ page → page < first + count → frame_at pages page < 4096) → AllRead (mappings_of pages first count)
 all_read pages zero first h = tt
 all_read pages (suc count) first h = (reads (frame_at pages first) (h first (omega arith) (omega arith)), all_read pages count (first + 1) (λ page l u. h page (omega (arith, l)) (omega (arith, u))))
 

@@ -184,6 +184,10 @@ cleared-tables : (n : ℕ) (x : Option ℕ) (c : Changed) → (leaf_cleared n x 
 cleared-tables n None c = refl
 cleared-tables n (Some t) c = refl
 
+pub unmap_page-pushes : (n : ℕ) (c : Changed) → Pushed (IsOf c.tables.tables) c.jobs (unmap_page n c).jobs 1
+unmap_page-pushes n c =
+    cleared-pushes n (frame_of c.tables.tables 0 (n / 512)) (record c { tables = record (c.tables) { pages = without_page n c.tables.pages } }) refl
+
 pub unmap_all-pushes : (count first : ℕ) (c : Changed) → Pushed (IsOf c.tables.tables) c.jobs (unmap_all (range_with_len first count) c).jobs count
 unmap_all-pushes zero first c = pushed_none (IsOf c.tables.tables) c.jobs 0
 unmap_all-pushes (suc count) first c =

@@ -5,4 +5,5 @@ pub mod PlanFits
 pub mod MallocLaws
 pub mod FreeLaws
 pub mod ReallocLaws
+pub mod PlainLaws
 pub mod OthersFit

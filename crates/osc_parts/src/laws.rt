@@ -4,6 +4,7 @@
 ghost use Rattle.osc_parts.specs.MallocLaws.{MallocsFit, MallocsTakeNeed};
 ghost use Rattle.osc_parts.specs.FreeLaws.{FreesFit};
 ghost use Rattle.osc_parts.specs.ReallocLaws.{ReallocsFit};
+ghost use Rattle.osc_parts.specs.PlainLaws.{PlainMallocsFit, PlainFreesFit, PlainReallocsFit};
 ghost use Rattle.osc_parts.specs.OthersFit.{PlansKeepOthers};
 
 /// A malloc leaves a memory whose parts fit and whose words agree with its tables once its jobs are
@@ -24,6 +25,14 @@ pub fn free_fits()
 /// parts that fit: none waits any more, and only live objects hold blocks.
 pub fn realloc_fits()
     ensures { ReallocsFit }
+{}
+
+/// The plans of the plain heap: a page is mapped exactly while it holds a block, and its frame is free
+/// only once the call has returned.
+pub fn plain_heap_fits()
+    ensures malloc { PlainMallocsFit }
+    ensures free { PlainFreesFit }
+    ensures realloc { PlainReallocsFit }
 {}
 
 /// A call of one process leaves all of another's memory, from the plan until the return and after it.
