@@ -1,0 +1,9 @@
+pub mod Blocks
+pub mod Copying
+pub mod Firsts
+pub mod Forks
+pub mod FreeNumbers
+pub mod Known
+pub mod Low
+pub mod MappedFrames
+pub mod Marks
