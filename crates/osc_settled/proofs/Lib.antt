@@ -1,0 +1,5 @@
+pub mod Lists
+pub mod Memories
+pub mod Commits
+pub mod Outcomes
+pub mod JobsDone
