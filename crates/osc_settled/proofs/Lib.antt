@@ -3,3 +3,4 @@ pub mod Memories
 pub mod Commits
 pub mod Outcomes
 pub mod JobsDone
+pub mod Silent
