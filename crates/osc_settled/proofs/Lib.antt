@@ -4,3 +4,5 @@ pub mod Commits
 pub mod Outcomes
 pub mod JobsDone
 pub mod Silent
+pub mod Answering
+pub mod Ending

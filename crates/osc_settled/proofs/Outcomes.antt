@@ -11,13 +11,13 @@ use Rattle.osc_calls.specs.Labels.{out_count}
 use Rattle.osc_calls.specs.Refusals.{draft_of}
 use Rattle.osc_calls.specs.Planned.{Planned, closing_effect, outcome_planned}
 use Rattle.osc_calls.specs.Plan.{committed}
-use Rattle.osc_settled.specs.Memory.{memory_of, MemoryFits}
+use Rattle.osc_settled.specs.Memory.{Memory, memory_of, SpaceFits, MemoryFits}
 use Rattle.osc_settled.specs.Records.{is_living, ends_by, ending, RecordsFit}
 use Rattle.osc_settled.specs.UnderWay.{closing_of, HasAlone, made_by, is_end, record_by, EffectFits, WaitingFits, UnderWayFits}
 use Rattle.osc_settled.specs.KernelFits.{SizesFit, KernelFits}
 use Rattle.osc_settled.specs.KeepLaws.{FitsCaller, OutcomesKeep}
 use Rattle.osc_settled.proofs.Lists.{get-put_same, length-put}
-use Rattle.osc_settled.proofs.Memories.{made, plan_memory}
+use Rattle.osc_settled.proofs.Memories.{made, closes_for, plan_memory}
 use Rattle.osc_settled.proofs.Commits.{lives_none, none_lives, living_put, records_stay, Owed, commits}
 
 -- ---- a call that waits
@@ -34,6 +34,23 @@ asks words k c f e = record {
   records = subst (λ u. RecordsFit k.processes k.threads k.records (ending u)) e f.records;
   waits = subst (λ u. UnderWayFits k u) e f.under_way;
 }
+
+-- the caller's process is there and lives
+pub caller_lives : (words : List ℕ) (k : KernelState) (c : Calling) → Asks words k c → is_living (process_at k c.pid) ≡ true
+caller_lives words k c a = a.records.lives c.hart c.pid c.thread a.waits.caller
+
+-- a call that gives nothing back
+pub closes_nothing : (words : List ℕ) (m : Memory) (pid : ℕ) → MemoryFits words m (λ q. Keeps) → MemoryFits words m (closes_for pid Keeps)
+closes_nothing words m pid f = record {
+  spaces = λ q p at lives. go (pid == q) p (f.spaces q p at lives);
+  bare = f.bare;
+  uses = f.uses;
+  holders = f.holders;
+}
+  where
+    go : (b : Bool) (p : Process) → SpaceFits words m Keeps p.space → SpaceFits words m (cond b Keeps Keeps) p.space
+    go true p s = s
+    go false p s = s
 
 -- ---- an effect by what is given back
 ends_none : (closing : Closing) (pid : ℕ) → ends_by pid (closing_effect closing) ≡ None
