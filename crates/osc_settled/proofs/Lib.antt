@@ -6,3 +6,6 @@ pub mod JobsDone
 pub mod Silent
 pub mod Answering
 pub mod Ending
+pub mod Jobs
+pub mod Spawning
+pub mod Writing
