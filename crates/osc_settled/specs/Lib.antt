@@ -1,0 +1,5 @@
+pub mod Memory
+pub mod Records
+pub mod UnderWay
+pub mod KernelFits
+pub mod KeepLaws
