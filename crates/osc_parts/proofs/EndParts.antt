@@ -143,7 +143,7 @@ leaves (x ∷ xs) r a t h w =
         (holders (let_regions_go xs (drop_frame x (holders r.regions x) r)).regions f) k v none
 
 -- ---- another's regions
-member_held : (test : ℕ → Bool) (ms : List Mapped) (q : ℕ) (m : Mapping) → test q ≡ true → mapping_at ms q ≡ Some m → 0 < among m.frame (map frame_of_page (filter (λ (x : Mapped). test x.number) ms))
+pub member_held : (test : ℕ → Bool) (ms : List Mapped) (q : ℕ) (m : Mapping) → test q ≡ true → mapping_at ms q ≡ Some m → 0 < among m.frame (map frame_of_page (filter (λ (x : Mapped). test x.number) ms))
 member_held test [] q m t e = absurd (let z : ⊥ = grind (arith, e) in z)
 member_held test (x ∷ ms) q m t e = go (x.number == q) refl (test x.number) refl e (member_held test ms q m t)
   where

@@ -9,3 +9,4 @@ pub mod PlainLaws
 pub mod OthersFit
 pub mod ShareLaws
 pub mod EndLaws
+pub mod ForkFits

@@ -8,6 +8,7 @@ ghost use Rattle.osc_parts.specs.PlainLaws.{PlainMallocsFit, PlainFreesFit, Plai
 ghost use Rattle.osc_parts.specs.OthersFit.{PlansKeepOthers};
 ghost use Rattle.osc_parts.specs.ShareLaws.{SharesFit};
 ghost use Rattle.osc_parts.specs.EndLaws.{EndsFit};
+ghost use Rattle.osc_parts.specs.ForkFits.{ForksFit};
 
 /// A malloc leaves a memory whose parts fit and whose words agree with its tables once its jobs are
 /// done. It takes exactly the frames that its block and its tables need, all of them free before, and
@@ -52,4 +53,9 @@ pub fn share_fits()
 /// and leaves all of other processes' memories.
 pub fn end_fits()
     ensures { EndsFit }
+{}
+
+/// After a fork that is not refused parent and child fit beside each other, and all others beside both.
+pub fn fork_fits()
+    ensures { ForksFit }
 {}
