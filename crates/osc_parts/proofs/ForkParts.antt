@@ -1,5 +1,5 @@
 -- A fork that is not refused: the parts of the child, the parent and the others.
-use Rattle.std.proofs.Common.{ℕ, zero, suc, ◌+◌, ◌-◌, ◌*◌, ◌/◌, ◌≡◌, ◌≢◌, ◌<◌, ◌≤◌, ◌==◌, nat_lt, nat_le, ◌&&◌, ◌||◌, Bool, true, false, not, cond, Option, Some, None, is_some, option_map, List, [], ◌∷◌, ◌++◌, length, map, filter, slice_get, arith, refl, ap, sym, ◌∙◌, subst}
+use Rattle.std.proofs.Common.{ℕ, zero, suc, ◌+◌, ◌-◌, ◌*◌, ◌/◌, ◌≡◌, ◌≢◌, ◌<◌, ◌≤◌, ◌==◌, nat_lt, nat_le, ◌&&◌, ◌||◌, Bool, true, false, not, cond, Option, Some, None, is_some, option_map, List, [], ◌∷◌, ◌++◌, length, map, filter, zip, slice_get, arith, refl, ap, sym, ◌∙◌, subst}
 use Rattle.std.specs.Prelude.{slice_index}
 use Rattle.std.specs.List.{list_any}
 use Rattle.std.proofs.lemmas.Bool.Decides.{nat_tests}
@@ -7,14 +7,17 @@ use Rattle.std.proofs.lemmas.List.{map-append}
 use Rattle.osc_word.specs.declared.settings.HeapKind.{HeapKind}
 use Rattle.osc_word.specs.declared.settings.HeapKind.TheVariants.{Oscar, Plain}
 use Rattle.osc_word.specs.AddressMap.{is_image_or_stack, is_shared}
+use Rattle.osc_word.specs.declared.job_list.Job.{Job}
 use Rattle.osc_sv39.specs.declared.entries.Mapping.{Mapping}
 use Rattle.osc_slot.specs.declared.HeapPage.{HeapPage}
 use Rattle.osc_slot.specs.Heap.{Heap, IsHeap, HaveFrames, has_frame, rename, copy, frame_of}
+use Rattle.osc_slot.proofs.Backing.{free_count-le}
 use Rattle.osc_slot.proofs.Copying.{frame_of-rename, copy_is_heap}
 use Rattle.osc_paging.specs.declared.Mapped.{Mapped}
 use Rattle.osc_paging.specs.declared.TableFrame.{TableFrame}
 use Rattle.osc_paging.specs.JobWords.{words_after}
-use Rattle.osc_paging.specs.KeptTables.{KeptTables, mapping_at, root_of}
+use Rattle.osc_paging.specs.KeptTables.{KeptTables, mapping_at, root_of, piece_of}
+use Rattle.osc_paging.specs.Agree.{Agrees}
 use Rattle.osc_paging.specs.KeptTables.{frame_of as table_over}
 use Rattle.osc_paging.specs.TableChanges.{renamed, renamed_page, renamed_table}
 use Rattle.osc_paging.specs.CopyLaws.{KeepsTaken, TellsEntries, CopyAgrees}
@@ -22,14 +25,15 @@ use Rattle.osc_paging.proofs.WordLists.{words_after-append}
 use Rattle.osc_paging.proofs.Copied.{new_mapping, new_name, mapping_at-renamed, frame_of-renamed}
 use Rattle.osc_space.specs.LeafFlags.{read_write_at}
 use Rattle.osc_space.specs.Space.{Space, Draft, first_reason}
-use Rattle.osc_space.specs.Fork.{Forked, table_frame_of, heap_frame_of, frame_of_page, image_frames, frames_owned, is_private, fork_reasons, fork_plan}
-use Rattle.osc_space.specs.ForkLaws.{StandsForNew, CopiesApart, CopiesEach}
+use Rattle.osc_space.specs.Fork.{Forked, private_frames, free_numbers, copies, copy_by, copy_job, table_frame_of, heap_frame_of, frame_of_page, image_frames, frames_owned, is_private, fork_reasons, fork_plan}
+use Rattle.osc_space.specs.ForkLaws.{StandsForNew, CopiesApart, IsCopy, AreCopies, CopiesEach}
 use Rattle.osc_space.specs.Share.{Regions, holders, hold, join, shared_pages, shared_frames, next_shared_page}
 use Rattle.osc_space.specs.Agree.{AreApart, HeapAgrees, RegionsAgree, SpaceAgrees, frames_of}
 use Rattle.osc_space.proofs.ForkLawProofs.{forks_apart, forks_copy_each}
 use Rattle.osc_space.proofs.ForkAgreeProofs.{forks_agree}
 use Rattle.osc_parts.specs.Frames.{one_at, among, vacant, one_where, frames_held, frames_mapped, FramesFit}
 use Rattle.osc_parts.specs.Settled.{tables_of, PartsFit, Settled}
+use Rattle.osc_parts.specs.Jobs.{WritesWhere, AllWriteWhere, Pushed, IsOwn}
 use Rattle.osc_parts.specs.OthersFit.{HoldsApart}
 use Rattle.osc_parts.specs.ForkFits.{ForkFits, ForksFit}
 use Rattle.osc_parts.proofs.Counts.{among-append, member_counts}
@@ -37,7 +41,9 @@ use Rattle.osc_parts.proofs.Trading.{held_is, owned_is, held_once, held_taken, f
 use Rattle.osc_parts.proofs.Settling.{settled_frames}
 use Rattle.osc_parts.proofs.Blocks.{taken_small}
 use Rattle.osc_parts.proofs.EndParts.{member_held}
-use Rattle.osc_parts.proofs.SharedPages.{hold_length, hold_each}
+use Rattle.osc_parts.proofs.SharedPages.{numbers_count, hold_length, hold_each}
+use Rattle.osc_parts.proofs.JobCounts.{length-mapped}
+use Rattle.osc_parts.proofs.Others.{words_beside}
 
 -- ---- frames under their names
 index_is : (xs : List ℕ) (i x : ℕ) → slice_get xs i ≡ Some x → slice_index xs i ≡ x
@@ -80,6 +86,19 @@ same_names : (names : List ℕ) (xs : List ℕ) → ((f : ℕ) → 0 < among f x
 same_names names [] h = refl
 same_names names (x ∷ xs) h =
     ap (λ y. y ∷ map (slice_index names) xs) (h x (grind (arith, nat_tests))) ∙ ap (λ ys. x ∷ ys) (same_names names xs (λ f l. h f (omega (arith, l))))
+
+name_in_list : (names : List ℕ) (xs : List ℕ) (f : ℕ) → 0 < among f xs → 0 < among (slice_index names f) (map (slice_index names) xs)
+name_in_list names [] f l = absurd (omega arith)
+name_in_list names (x ∷ xs) f l = go (x == f) refl l (name_in_list names xs f)
+  where
+    go : (b : Bool) → (x == f) ≡ b → 0 < cond b 1 0 + among f xs → (0 < among f xs → 0 < among (slice_index names f) (map (slice_index names) xs)) → 0 < one_at (slice_index names x) (slice_index names f) + among (slice_index names f) (map (slice_index names) xs)
+    go true e m later = let same : x ≡ f = grind (arith, nat_tests, e) in let n : slice_index names x ≡ slice_index names f = ap (slice_index names) same in grind (arith, nat_tests, n)
+    go false e m later = let r = later (omega (arith, m)) in omega (arith, r)
+
+zip_few : (xs ys : List ℕ) → length (zip xs ys) ≤ length ys
+zip_few [] ys = omega arith
+zip_few (x ∷ xs) [] = omega arith
+zip_few (x ∷ xs) (y ∷ ys) = let l = zip_few xs ys in omega (arith, l)
 
 table_names : (names : List ℕ) (ts : List TableFrame) → map table_frame_of (map (renamed_table names) ts) ≡ map (slice_index names) (map table_frame_of ts)
 table_names names [] = refl
@@ -432,6 +451,51 @@ module _ (kind : HeapKind) (batch : ℕ) (entries : ℕ → ℕ → ℕ) (words 
       subst (λ ws. CopyAgrees d.space.tables names after ws) (sym (words_after-append entries d.jobs (fork_plan d.space d.free).jobs words))
       (forks_agree kind entries d.space regions d.free (words_after entries d.jobs words) was settled.tables made t)
 
+  -- ---- jobs
+  child_has : (g : ℕ) → 0 < among g (frames_owned d.space) → 0 < among (slice_index names g) (frames_held child)
+  child_has g l = let h = child_held (slice_index names g) in let n = name_in_list names (frames_owned d.space) g l in omega (arith, h, n)
+
+  copy_where : (job : Job) → IsCopy d.space (length d.free) (fork_plan d.space d.free) job → WritesWhere (IsOwn child) job
+  copy_where job i = subst (WritesWhere (IsOwn child)) i.is (go (is_some (piece_of d.space.tables.tables i.from)))
+    where
+      own_to : 0 < among i.to (frames_held child)
+      own_to =
+          let p = i.private in
+          let m = member_counts i.from (frames_owned d.space) in
+          let l : 0 < among i.from (frames_owned d.space) = grind (arith, nat_tests, p, m) in
+          subst (λ x. 0 < among x (frames_held child)) (index_is names i.from i.to i.named) (child_has i.from l)
+
+      go : (b : Bool) → WritesWhere (IsOwn child) (copy_by b (i.from, i.to))
+      go true = own_to
+      go false = (omega arith, omega arith, own_to)
+
+  copies_where : (jobs : List Job) → AreCopies d.space (length d.free) (fork_plan d.space d.free) jobs → AllWriteWhere (IsOwn child) jobs
+  copies_where [] a = tt
+  copies_where (job ∷ jobs) a = (copy_where job a.0, copies_where jobs a.1)
+
+  jobs_few : length (fork_plan d.space d.free).jobs ≤ length d.free
+  unfolding fork_plan
+  jobs_few =
+      let a = length-mapped (copy_job d.space.tables) (copies d.space d.free) in
+      let b = zip_few (private_frames d.space (length d.free)) (free_numbers d.free) in
+      let n = numbers_count d.free in
+      let m = free_count-le d.free in
+      omega (arith, a, b, n, m)
+
+  pushes : Pushed (IsOwn child) d.jobs (d.jobs ++ (fork_plan d.space d.free).jobs) (8 * length d.free + 64)
+  pushes = record {
+    more = (fork_plan d.space d.free).jobs;
+    is = refl;
+    few = (let a = jobs_few in omega (arith, a));
+    within = copies_where (fork_plan d.space d.free).jobs each.only;
+  }
+
+  other_words : (other_kind : HeapKind) (other_batch : ℕ) (other : Space) → PartsFit other_kind other_batch regions other d.free
+      → Agrees other.tables d.free (words_after entries d.jobs words) → Agrees other.tables after (words_after entries (d.jobs ++ (fork_plan d.space d.free).jobs) words)
+  other_words k b o p g =
+      let t = settled_frames k o regions d.free p.agrees in
+      words_beside entries words child o d.free after d.jobs (d.jobs ++ (fork_plan d.space d.free).jobs) (8 * length d.free + 64) (child_apart o t) pushes g each.frames (fit_kept o t)
+
   pub fork_fits : ForkFits kind batch entries words regions (join (fork_plan d.space d.free).child.tables regions) d (fork_plan d.space d.free)
   unfolding fork_plan join
   fork_fits = record {
@@ -443,9 +507,11 @@ module _ (kind : HeapKind) (batch : ℕ) (entries : ℕ → ℕ → ℕ) (words 
     holds = holds;
     same = child_shared;
     tables = words_fit;
+    pushes = pushes;
     others = λ k b o p a. kept k b o p (others_not_shared k b o p a);
     others_apart = λ k b o p. child_apart o (settled_frames k o regions d.free p.agrees);
     others_back = λ k b o p a. child_back o (settled_frames k o regions d.free p.agrees) (others_not_shared k b o p a);
+    others_tables = other_words;
   }
 
 pub forks_fit : ForksFit
