@@ -2,6 +2,7 @@ pub mod Frames
 pub mod Settled
 pub mod Jobs
 pub mod PlanFits
+pub mod OpenLaws
 pub mod MallocLaws
 pub mod FreeLaws
 pub mod ReallocLaws
