@@ -2,8 +2,12 @@ pub mod Frames
 pub mod Settled
 pub mod Jobs
 pub mod PlanFits
+pub mod OpenLaws
 pub mod MallocLaws
 pub mod FreeLaws
 pub mod ReallocLaws
 pub mod PlainLaws
 pub mod OthersFit
+pub mod ShareLaws
+pub mod EndLaws
+pub mod ForkFits
