@@ -153,7 +153,7 @@ all_copied t i names0 names free0 free jobs0 jobs s c =
     let count = lists.length-map (range_with_len 0 (length names0)) (name_in all) ∙ length-range_with_len 0 (length names0) in
     record {
       names_are = same_number_lists names _ (size ∙ sym count)
-      (λ k l. c.done k (omega (arith, l, s)) ∙ sym (get_or-map-range_with_len (name_in all) 0 (length names0) k k 0 (omega (arith, l, size)) (omega arith)));
+          (λ k l. c.done k (omega (arith, l, s)) ∙ sym (get_or-map-range_with_len (name_in all) 0 (length names0) k k 0 (omega (arith, l, size)) (omega arith)));
       free_is = sym (ap (λ n. set_free false (tos (rest (is_marked names0) i n free)) free) none) ∙ c.taken;
       pushed = sym (lists.append-nil jobs.pushed) ∙ sym (ap (λ n. jobs.pushed ++ map (copy_job t) (rest (is_marked names0) i n free)) none) ∙ c.pushed;
     }

@@ -183,13 +183,12 @@ pub are_names : (kind : HeapKind) (s : Space) (regions : Regions) (free : List B
 are_names kind s regions free agrees none =
     let names = names_of s free none in
     let apart = apart_right (map table_frame_of s.tables.tables) (map heap_frame_of s.heap.pages) (apart_left (map table_frame_of s.tables.tables ++ map heap_frame_of s.heap.pages) (image_frames s.tables) (apart_left (frames_owned s) (shared_frames s.tables) agrees.apart)) in
-    let small : (a : ℕ) → is_member a (map heap_frame_of s.heap.pages) ≡ true → a < length free = λ a m. private_small s free a agrees.taken (heap_private s a m) in
-    (
+    let small : (a : ℕ) → is_member a (map heap_frame_of s.heap.pages) ≡ true → a < length free = λ a m. private_small s free a agrees.taken (heap_private s a m) in (
       names.size ∙ sym agrees.frames,
       subst (λ n. HaveFrames n (map (rename (fork_plan s free).names) s.heap.pages)) (sym agrees.frames)
-      (have_frames (fork_plan s free).names (length free) s.heap.pages apart
-      (λ a b k l e. names.apart a b (small a k) (small b l) (heap_private s a k) (heap_private s b l) e)
-      (λ a k. names.small a (small a k) (heap_private s a k))),
+          (have_frames (fork_plan s free).names (length free) s.heap.pages apart
+          (λ a b k l e. names.apart a b (small a k) (small b l) (heap_private s a k) (heap_private s b l) e)
+          (λ a k. names.small a (small a k) (heap_private s a k))),
     )
 
 -- ---- the plan

@@ -1,6 +1,7 @@
 pub mod Blocks
 pub mod Copying
 pub mod Firsts
+pub mod Fresh
 pub mod Forks
 pub mod FreeNumbers
 pub mod Known

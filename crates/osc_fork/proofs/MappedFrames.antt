@@ -153,4 +153,3 @@ mapped_taken kind s regions free n m a e = go (is_image_or_stack n) (is_shared n
         taken_at free (frames_of s) m.frame a.taken
         (in_second m.frame (frames_owned s) (shared_frames s.tables) (mapped_member is_shared s.tables.pages n m j e))
     go false false i j r = heap_mapped kind s free n m a.heap a.taken e r
-

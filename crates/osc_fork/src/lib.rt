@@ -7,3 +7,6 @@ mod marking;
 mod plan;
 
 pub use plan::{ForkPlan, plan_fork};
+
+#[cfg(test)]
+mod tests;

@@ -29,8 +29,7 @@ pub returns-then-count_marked-free_count-clause-plan : goal.returns-then-count_m
 returns-then-count_marked-free_count-clause-plan c waiting =
     let k = known_names c.args.tables.now c.args.marks.now c.args.heap.now c.args.frames.now c.mark_tables.new.names c.mark_pages.new.names c.mark_pages-2.new.names c.mark_objects.new.names c.requires.agrees c.mark_pages.ensures.order.ascend c.mark_objects.ensures.valid
     (c.mark_tables.auto.names ∙ c.requires.names) c.mark_tables.ensures c.mark_pages.ensures.names c.mark_pages-2.ensures.names c.mark_objects.ensures.more c.mark_objects.ensures.found waiting in
-    let count = c.count_marked.ensures ∙ count_is c.mark_objects.new.names in
-    (
+    let count = c.count_marked.ensures ∙ count_is c.mark_objects.new.names in (
       is_refused (space_of c.args.tables.now c.args.marks.now c.args.heap.now waiting) c.args.frames.now c.mark_objects.new.names c.requires.agrees.few k (omega (arith, count, c.free_count.ensures, c.if-count_marked-free_count.true)),
       refl,
     )
