@@ -9,3 +9,6 @@ pub mod Ending
 pub mod Jobs
 pub mod Spawning
 pub mod Writing
+pub mod Plans
+pub mod Beginning
+pub mod Finishing
