@@ -23,8 +23,8 @@ use Rattle.osc_paging.specs.CopyLaws.{IsNoTable, WritesElsewhere, AllElsewhere}
 use Rattle.osc_space.specs.LeafFlags.{read_write, read_write_at}
 use Rattle.osc_space.specs.Fork.{table_frame_of, heap_frame_of}
 use Rattle.osc_space.specs.BlockWords.{Stretch, stretches, words_in, block_word, frame_at, mappings_of, block_mappings, zero_jobs, zero_block, header_jobs, size_job, part_job, copy_jobs, trim_jobs, whole_end, words_end}
-use Rattle.osc_space.specs.WordLaws.{LiesInFrames, IsFrameOf, AllWriteIn, StayInFrames, BlockJobsStay}
-use Rattle.osc_space.proofs.WordLawProofs.{block_jobs_stay, no_piece_crosses}
+use Rattle.osc_space.specs.WordLaws.{AreCut, LiesInFrames, IsFrameOf, AllWriteIn, StayInFrames, BlockJobsStay}
+use Rattle.osc_space.proofs.WordLawProofs.{stretches_cut, block_jobs_stay, no_piece_crosses}
 use Rattle.osc_parts.specs.Frames.{among}
 use Rattle.osc_parts.specs.Jobs.{WritesWhere, AllWriteWhere}
 use Rattle.osc_parts.proofs.Shapes.{AllRead}
@@ -111,7 +111,7 @@ where_append own (x ∷ xs) ys h k = (h.0, where_append own xs ys h.1 k)
 weaker : (own other : ℕ → Type 0) (job : Job) → ((f : ℕ) → own f → other f) → WritesWhere own job → WritesWhere other job
 weaker own other (PutWord at value) h w = (w.0, h at.frame w.1)
 weaker own other (ZeroWords at count) h w = (w.0, h at.frame w.1)
-weaker own other (CopyWords from to count) h w = (w.0, h to.frame w.1)
+weaker own other (CopyWords from to count) h w = (w.0, w.1, h to.frame w.2)
 weaker own other (CopyPart from to bytes) h w = (w.0, h to.frame w.1)
 weaker own other (CopyTable from to) h w = h to w
 weaker own other (ClearBox hart) h w = tt
@@ -125,7 +125,7 @@ all_weaker own other (job ∷ jobs) h w = (weaker own other job h w.0, all_weake
 elsewhere : (t : KeptTables) (job : Job) → WritesWhere (IsNoTable t) job → WritesElsewhere t job
 elsewhere t (PutWord at value) w = w
 elsewhere t (ZeroWords at count) w = w
-elsewhere t (CopyWords from to count) w = w
+elsewhere t (CopyWords from to count) w = (w.1, w.2)
 elsewhere t (CopyPart from to bytes) w = w
 elsewhere t (CopyTable from to) w = w
 elsewhere t (ClearBox hart) w = tt
@@ -156,11 +156,65 @@ fill_where pages block size h =
     where_append (IsFrameOf pages block) (zero_block pages block) (header_jobs pages block size) (zero_where pages block h.lies)
     (header_where pages block size (let b = room_bytes block.room h.room in omega (arith, b)))
 
+-- a request has room with its header
+pub room_holds : (n : ℕ) → n + 16 ≤ block_bytes (room_of n)
+unfolding room_of
+room_holds n = go (class_of (n + 16)) refl
+  where
+    go : (x : Option ℕ) → class_of (n + 16) ≡ x → n + 16 ≤ block_bytes (class_or_pages x (n + 16))
+    go (Some class) e = let p = (position-Some (λ size. nat_le (n + 16) size) sizes class 0 e).1 in grind (arith, nat_tests, p)
+    go None e = omega arith
+
+-- the jobs of bytes that are kept
+zeroes_at : (pages : List HeapPage) (block : Block) (from to : ℕ) (ss : List Stretch) → AreCut from to ss → to ≤ block_bytes block.room
+    → StayInFrames (map (λ (s : Stretch). ZeroWords (block_word pages block s.from) (words_in s)) ss)
+    → AllWriteWhere (IsFrameOf pages block) (map (λ (s : Stretch). ZeroWords (block_word pages block s.from) (words_in s)) ss)
+zeroes_at pages block from to [] c l s = tt
+zeroes_at pages block from to (x ∷ ss) c l s =
+    ((s.0, record { offset = x.from; within = (let a = c.1 in let b = c.2 in omega (arith, a, b, l)); is = refl }), zeroes_at pages block from to ss c.4 l s.1)
+
+copies_at : (pages : List HeapPage) (old block : Block) (from to : ℕ) (ss : List Stretch) (rest : List Job) → AreCut from to ss → to ≤ block_bytes block.room
+    → StayInFrames (map (λ (s : Stretch). CopyWords (block_word pages old s.from) (block_word pages block s.from) (words_in s)) ss ++ rest)
+    → AllWriteWhere (IsFrameOf pages block) (map (λ (s : Stretch). CopyWords (block_word pages old s.from) (block_word pages block s.from) (words_in s)) ss)
+copies_at pages old block from to [] rest c l s = tt
+copies_at pages old block from to (x ∷ ss) rest c l s =
+    ((s.0.0, s.0.1, record { offset = x.from; within = (let a = c.1 in let b = c.2 in omega (arith, a, b, l)); is = refl }), copies_at pages old block from to ss rest c.4 l s.1)
+
+part_where : (pages : List HeapPage) (old block : Block) (bytes : ℕ) → 16 + bytes ≤ block_bytes block.room → AllWriteWhere (IsFrameOf pages block) (part_job pages old block bytes)
+part_where pages old block bytes l = go (bytes % 8 == 0) refl
+  where
+    go : (b : Bool) → (bytes % 8 == 0) ≡ b → AllWriteWhere (IsFrameOf pages block) (cond b [] (CopyPart (block_word pages old (whole_end bytes)) (block_word pages block (whole_end bytes)) (bytes % 8) ∷ []))
+    go true e = tt
+    go false e = ((omega arith, record { offset = whole_end bytes; within = (let n : bytes % 8 ≢ 0 = grind (arith, nat_tests, e) in omega (arith, l, n)); is = refl }), tt)
+
+pub part_few : (pages : List HeapPage) (old block : Block) (bytes : ℕ) → length (part_job pages old block bytes) ≤ 1
+part_few pages old block bytes = go (bytes % 8 == 0)
+  where
+    go : (b : Bool) → length {A = Job} (cond b [] (CopyPart (block_word pages old (whole_end bytes)) (block_word pages block (whole_end bytes)) (bytes % 8) ∷ [])) ≤ 1
+    go true = omega arith
+    go false = omega arith
+
+pub copy_where : (pages : List HeapPage) (old block : Block) (bytes : ℕ) → LiesInFrames old → LiesInFrames block → 16 + bytes ≤ block_bytes old.room → 16 + bytes ≤ block_bytes block.room → AllWriteWhere (IsFrameOf pages block) (copy_jobs pages old block bytes)
+copy_where pages old block bytes j k l m =
+    where_append (IsFrameOf pages block) (map (λ (s : Stretch). CopyWords (block_word pages old s.from) (block_word pages block s.from) (words_in s)) (stretches 16 (whole_end bytes))) (part_job pages old block bytes)
+    (copies_at pages old block 16 (whole_end bytes) (stretches 16 (whole_end bytes)) (part_job pages old block bytes) (stretches_cut 16 (whole_end bytes)).cut (omega (arith, m))
+    (no_piece_crosses.copy pages old block bytes j k (omega (arith, l)) (omega (arith, m))))
+    (part_where pages old block bytes m)
+
+pub trim_where : (pages : List HeapPage) (block : Block) (bytes size : ℕ) → LiesInFrames block → 16 + bytes ≤ block_bytes block.room → AllWriteWhere (IsFrameOf pages block) (trim_jobs pages block bytes size)
+trim_where pages block bytes size k l =
+    where_append (IsFrameOf pages block) (part_job pages block block bytes ++ zero_jobs pages block (words_end bytes) (block_bytes block.room)) (size_job pages block size ∷ [])
+    (where_append (IsFrameOf pages block) (part_job pages block block bytes) (zero_jobs pages block (words_end bytes) (block_bytes block.room))
+    (part_where pages block block bytes l)
+    (zeroes_at pages block (words_end bytes) (block_bytes block.room) (stretches (words_end bytes) (block_bytes block.room)) (stretches_cut (words_end bytes) (block_bytes block.room)).cut (omega arith)
+    (no_piece_crosses.zero pages block (words_end bytes) (block_bytes block.room) k (omega arith))))
+    ((omega arith, record { offset = 8; within = omega (arith, l); is = refl }), tt)
+
 -- ---- the mappings of a block's pages
 reads : (f : ℕ) → f < 4096 → ReadsAsLeaf (read_write_at f)
 reads f l = leaves_read_back f read_write (omega (arith, l)) (omega arith) refl
 
-all_read : (pages : List HeapPage) (count first : ℕ) → ((page : ℕ) → first ≤ page → page < first + count → frame_at pages page < 4096) → AllRead (mappings_of pages first count)
+pub all_read : (pages : List HeapPage) (count first : ℕ) → ((page : ℕ) → first ≤ page → page < first + count → frame_at pages page < 4096) → AllRead (mappings_of pages first count)
 all_read pages zero first h = tt
 all_read pages (suc count) first h = (reads (frame_at pages first) (h first (omega arith) (omega arith)), all_read pages count (first + 1) (λ page l u. h page (omega (arith, l)) (omega (arith, u))))
 

@@ -53,7 +53,7 @@ in_filter test (y ∷ xs) x e = go (test y) refl e (in_filter test xs x)
     go true d h later = at d (y == x) refl h later
     go false d h later = later h
 
-length-filtered : {X : Type 0} (test : X → Bool) (xs : List X) → length (filter test xs) ≤ length xs
+pub length-filtered : {X : Type 0} (test : X → Bool) (xs : List X) → length (filter test xs) ≤ length xs
 length-filtered test [] = omega arith
 length-filtered test (x ∷ xs) = go (test x) (length-filtered test xs)
   where
@@ -80,11 +80,11 @@ reclaim_all-pushes s (leaf ∷ leaves) c a =
     (λ f l. (let e = t.0.each f in let v = ap (λ free. vacant free f) free in omega (arith, e, v, l))) (omega arith) rest) in
     record { more = all.more; is = all.is; few = (let f = all.few in omega (arith, f)); within = all.within }
 
-clears_where : (own : ℕ → Type 0) (first count : ℕ) → AllWriteWhere own (map (λ hart. ClearBox hart) (range_with_len first count))
+pub clears_where : (own : ℕ → Type 0) (first count : ℕ) → AllWriteWhere own (map (λ hart. ClearBox hart) (range_with_len first count))
 clears_where own first zero = tt
 clears_where own first (suc count) = (tt, clears_where own (first + 1) count)
 
-clears_elsewhere : (t : KeptTables) (first count : ℕ) → AllElsewhere t (map (λ hart. ClearBox hart) (range_with_len first count))
+pub clears_elsewhere : (t : KeptTables) (first count : ℕ) → AllElsewhere t (map (λ hart. ClearBox hart) (range_with_len first count))
 clears_elsewhere t first zero = tt
 clears_elsewhere t first (suc count) = (tt, clears_elsewhere t (first + 1) count)
 

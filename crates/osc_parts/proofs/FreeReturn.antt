@@ -37,7 +37,7 @@ use Rattle.osc_parts.proofs.Settling.{settled_frames, Rest, parts_after, keeps_f
 use Rattle.osc_parts.proofs.JobCounts.{IsOf, pushed_both, pushed_weaker, unmap_all-pushes}
 use Rattle.osc_parts.proofs.Giving.{Finishes, finishes}
 use Rattle.osc_parts.proofs.Flushing.{Flushed, flushes}
-use Rattle.osc_parts.proofs.LettingGo.{waiting_are_held, waiting_are_different, is_held_waiting, left_agrees}
+use Rattle.osc_parts.proofs.LettingGo.{stand, waiting_are_held, waiting_are_different, is_held_waiting, left_agrees}
 use Rattle.osc_parts.proofs.FreeParts.{Frees, waits_trades, waits_free, waits_agrees, waits_tables, waits_objects}
 
 -- an object that is taken lives
@@ -141,7 +141,7 @@ module _ (batch : ℕ) (entries : ℕ → ℕ → ℕ) (words : List ℕ) (regio
 
   ends : Finishes blocks flushed
   ends = finishes blocks flushed m.settled.parts.heap (m.settled.parts.agrees.frames ∙ sym (ap length (does.free ∙ free_same))) flushed_frames
-      (waiting_are_held waits.space objects) (waiting_are_different waits.space objects m.settled.parts.heap.placed)
+      (waiting_are_held waits.space (stand waits.space objects)) (waiting_are_different waits.space (stand waits.space objects) m.settled.parts.heap.placed)
 
   all_trades : Trades d.space d.free returned.space returned.free
   all_trades =
@@ -159,10 +159,10 @@ module _ (batch : ℕ) (entries : ℕ → ℕ → ℕ) (words : List ℕ) (regio
 
   last_objects : ObjectsAgree last
   last_objects = left_agrees waits.space last_tables last_heap (record {
-    agrees = objects;
+    agrees = stand waits.space objects;
     placed = m.settled.parts.heap.placed;
     placed_now = ends.given.is_heap.placed;
-    pages = does.pages;
+    pages = λ q. ap (λ ps. mapping_at ps q) does.pages;
     frames = ends.given.frames;
     held = ends.given.held;
     stays = ends.given.stays;
@@ -205,7 +205,7 @@ module _ (batch : ℕ) (entries : ℕ → ℕ → ℕ) (words : List ℕ) (regio
     frames = flushed_frames;
     tables = does.tables;
     pushes = pushes;
-    held = λ block e. is_held_waiting waits.space block objects e;
+    held = λ block e. is_held_waiting waits.space block (stand waits.space objects) e;
     same = ends.same;
     gives = ends.trades;
     parts = subst (λ (x : Space). PartsFit Oscar batch regions x returned.free) (sym ends.space) last_parts;

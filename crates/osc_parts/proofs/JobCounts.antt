@@ -5,7 +5,7 @@ use Rattle.std.proofs.lemmas.Bool.Decides.{nat_tests}
 use Rattle.std.proofs.lemmas.List.{length-append, append_assoc}
 use Rattle.std.proofs.lemmas.List.FromFn.{length-map-range_with_len}
 use Rattle.osc_word.specs.declared.job_list.Job.{Job}
-use Rattle.osc_word.specs.declared.job_list.Job.TheVariants.{PutWord, ZeroWords, ClearBox}
+use Rattle.osc_word.specs.declared.job_list.Job.TheVariants.{PutWord, ZeroWords, CopyWords, ClearBox}
 use Rattle.osc_sv39.specs.declared.entries.Mapping.{Mapping}
 use Rattle.osc_sv39.specs.declared.entries.PteEntry.TheVariants.{Table, Leaf}
 use Rattle.osc_sv39.specs.Entries.{word_of}
@@ -16,13 +16,18 @@ use Rattle.osc_paging.specs.declared.TableFrame.{TableFrame}
 use Rattle.osc_paging.specs.KeptTables.{KeptTables, frame_of, is_piece}
 use Rattle.osc_paging.specs.TableChanges.{Changed, put_job, zero_job, linked, link, link_all, leaf_put, put_leaf, map_page, map_pages, leaf_cleared, unmap_page, unlinked, reclaim, table_frame, without_page, without_table}
 use Rattle.osc_paging.proofs.Kept.{position_passes}
-use Rattle.osc_space.specs.BlockWords.{Stretch, stretch, cut, stretches, zero_block}
+use Rattle.osc_class.specs.declared.Room.{Room}
+use Rattle.osc_class.specs.Rooms.{IsRoom, block_bytes, shadow_pages}
+use Rattle.osc_slot.specs.declared.Block.{Block}
+use Rattle.osc_slot.specs.declared.HeapPage.{HeapPage}
+use Rattle.osc_slot.proofs.Bounds.{bytes_within}
+use Rattle.osc_space.specs.BlockWords.{Stretch, stretch, cut, stretches, words_in, block_word, zero_jobs, size_job, part_job, copy_jobs, trim_jobs, whole_end, words_end}
 use Rattle.osc_space.specs.Fork.{table_frame_of}
 use Rattle.osc_space.specs.Free.{unmap_all, reclaim_all, clear_jobs}
 use Rattle.osc_parts.specs.Frames.{one_at, among}
 use Rattle.osc_parts.specs.Jobs.{AllWriteWhere, Pushed}
 use Rattle.osc_parts.proofs.Counts.{table_more}
-use Rattle.osc_parts.proofs.Blocks.{where_append, all_weaker}
+use Rattle.osc_parts.proofs.Blocks.{where_append, all_weaker, part_few}
 
 pub pushed_none : (own : ℕ → Type 0) (jobs : List Job) (most : ℕ) → Pushed own jobs jobs most
 pushed_none own jobs most = record { more = []; is = at_end jobs; few = omega arith; within = tt }
@@ -142,6 +147,34 @@ pub length-mapped : {X Y : Type 0} (f : X → Y) (xs : List X) → length (map f
 length-mapped f [] = refl
 length-mapped f (x ∷ xs) = ap suc (length-mapped f xs)
 
+pub run_few : (from to pages : ℕ) → to ≤ 4096 * pages → length (stretches from to) ≤ pages
+run_few from to pages l = let c = cut-few ((to + 4095) / 4096) 0 from to in omega (arith, c, l)
+
+pub room_pages : (room : Room) → IsRoom room → block_bytes room ≤ 4096 * shadow_pages room
+room_pages room r = let a = bytes_within room 0 r in omega (arith, a)
+
+pub zeroes_few : (pages : List HeapPage) (block : Block) (from : ℕ) → IsRoom block.room → length (zero_jobs pages block from (block_bytes block.room)) ≤ shadow_pages block.room
+zeroes_few pages block from r =
+    let a = length-mapped (λ (x : Stretch). ZeroWords (block_word pages block x.from) (words_in x)) (stretches from (block_bytes block.room)) in
+    let b = run_few from (block_bytes block.room) (shadow_pages block.room) (room_pages block.room r) in
+    omega (arith, a, b)
+
+pub copies_few : (pages : List HeapPage) (old block : Block) (bytes : ℕ) → IsRoom block.room → 16 + bytes ≤ block_bytes block.room → length (copy_jobs pages old block bytes) ≤ shadow_pages block.room + 1
+copies_few pages old block bytes r l =
+    let e = length-append (map (λ (s : Stretch). CopyWords (block_word pages old s.from) (block_word pages block s.from) (words_in s)) (stretches 16 (whole_end bytes))) (part_job pages old block bytes) in
+    let a = length-mapped (λ (s : Stretch). CopyWords (block_word pages old s.from) (block_word pages block s.from) (words_in s)) (stretches 16 (whole_end bytes)) in
+    let b = run_few 16 (whole_end bytes) (shadow_pages block.room) (let p = room_pages block.room r in omega (arith, p, l)) in
+    let c = part_few pages old block bytes in
+    omega (arith, e, a, b, c)
+
+pub trims_few : (pages : List HeapPage) (block : Block) (bytes size : ℕ) → IsRoom block.room → length (trim_jobs pages block bytes size) ≤ shadow_pages block.room + 2
+trims_few pages block bytes size r =
+    let e = length-append (part_job pages block block bytes ++ zero_jobs pages block (words_end bytes) (block_bytes block.room)) (size_job pages block size ∷ []) in
+    let f = length-append (part_job pages block block bytes) (zero_jobs pages block (words_end bytes) (block_bytes block.room)) in
+    let a = part_few pages block block bytes in
+    let b = zeroes_few pages block (words_end bytes) r in
+    omega (arith, e, f, a, b)
+
 -- ---- pages less
 cleared-pushes : (n : ℕ) (x : Option ℕ) (c : Changed) → frame_of c.tables.tables 0 (n / 512) ≡ x → Pushed (IsOf c.tables.tables) c.jobs (leaf_cleared n x c).jobs 1
 cleared-pushes n None c e = pushed_none (IsOf c.tables.tables) c.jobs 1
@@ -150,6 +183,10 @@ cleared-pushes n (Some t) c e = record { more = put_job t (n % 512) 0 ∷ []; is
 cleared-tables : (n : ℕ) (x : Option ℕ) (c : Changed) → (leaf_cleared n x c).tables.tables ≡ c.tables.tables
 cleared-tables n None c = refl
 cleared-tables n (Some t) c = refl
+
+pub unmap_page-pushes : (n : ℕ) (c : Changed) → Pushed (IsOf c.tables.tables) c.jobs (unmap_page n c).jobs 1
+unmap_page-pushes n c =
+    cleared-pushes n (frame_of c.tables.tables 0 (n / 512)) (record c { tables = record (c.tables) { pages = without_page n c.tables.pages } }) refl
 
 pub unmap_all-pushes : (count first : ℕ) (c : Changed) → Pushed (IsOf c.tables.tables) c.jobs (unmap_all (range_with_len first count) c).jobs count
 unmap_all-pushes zero first c = pushed_none (IsOf c.tables.tables) c.jobs 0

@@ -2,21 +2,56 @@
 use Rattle.std.proofs.Common.{ℕ, zero, suc, ◌+◌, ◌-◌, ◌*◌, ◌/◌, ◌%◌, ◌≡◌, ◌≢◌, ◌<◌, ◌≤◌, ◌==◌, nat_lt, nat_le, ◌&&◌, ◌||◌, Bool, true, false, not, cond, Option, Some, None, is_some, option_map, List, [], ◌∷◌, ◌++◌, length, map, filter, slice_get, arith, refl, ap, sym, ◌∙◌, subst, ◌⊎◌, inl, inr, ⊎_elim}
 use Rattle.std.specs.List.{list_any}
 use Rattle.std.proofs.lemmas.Bool.Decides.{nat_tests}
+use Rattle.osc_word.specs.AddressMap.{is_shadow, is_canonical_page}
+use Rattle.osc_class.specs.Rooms.{room_of, shadow_pages}
 use Rattle.osc_slot.specs.declared.Block.{Block}
 use Rattle.osc_slot.specs.Slots.{is_held, is_covered}
 use Rattle.osc_slot.specs.Heap.{Heap, ArePlaced, frame_of}
 use Rattle.osc_paging.specs.KeptTables.{KeptTables, mapping_at}
 use Rattle.osc_space.specs.declared.ObjectFact.{ObjectFact}
 use Rattle.osc_space.specs.LeafFlags.{read_write_at}
-use Rattle.osc_space.specs.Objects.{is_live, fact}
+use Rattle.osc_space.specs.Objects.{mark, is_live, is_live_page, fact, AreGranted}
 use Rattle.osc_space.specs.Header.{block_of}
 use Rattle.osc_space.specs.Space.{Space}
 use Rattle.osc_space.specs.Free.{waiting_blocks}
-use Rattle.osc_space.specs.Agree.{IsLive, IsKept, IsBlockOf, ObjectsAgree}
+use Rattle.osc_space.specs.Agree.{is_waiting, AreApart, IsLive, IsKept, IsBlockOf, ObjectsAgree}
 use Rattle.osc_parts.proofs.Waiting.{is_in, Different, AllHeld, Waiter, waiter, waiting_held, waiting_all_held, waiting_differ, lies, object_covered}
 
+-- what is needed of the objects when those that wait are let go: all but that their leaf tables are
+-- linked, which may be given up by then
+pub record ObjectsStand (s : Space) : Type 0 where
+  pub granted : AreGranted s.objects
+  pub limit : mark s.objects ≤ s.shadows
+  pub canonical : (page : ℕ) → is_canonical_page page ≡ true → mapping_at s.tables.pages page ≡ None
+  pub shadows : (page : ℕ) → is_shadow page ≡ true → is_some (mapping_at s.tables.pages page) ≡ is_live_page s.objects page
+  pub held : (object : ℕ) (o : ObjectFact) → IsKept s object o → is_held s.heap.held (block_of o) ≡ true
+  pub own : (a b : ℕ) (o p : ObjectFact) → IsKept s a o → IsKept s b p → o.canon ≡ p.canon → a ≡ b
+  pub backed : (block : Block) → is_held s.heap.held block ≡ true → IsBlockOf s block
+  pub pages : (object : ℕ) (o : ObjectFact) → IsKept s object o → o.pages ≡ shadow_pages (room_of o.size)
+  pub mapped : (object k : ℕ) (o : ObjectFact) → IsLive s object o → k < o.pages
+      → mapping_at s.tables.pages (o.first + k) ≡ option_map read_write_at (frame_of s.heap.pages (o.canon / 4096 + k))
+  pub small : (object : ℕ) (o : ObjectFact) → IsLive s object o → o.pages ≤ s.heap.frames
+  pub apart : AreApart s.waiting
+  pub dead : (object : ℕ) (o : ObjectFact) → is_waiting s object ≡ true → fact s.objects object ≡ Some o → is_live o ≡ false
+
+pub stand : (s : Space) → ObjectsAgree s → ObjectsStand s
+stand s g = record {
+  granted = g.granted;
+  limit = g.limit;
+  canonical = g.canonical;
+  shadows = g.shadows;
+  held = g.held;
+  own = g.own;
+  backed = g.backed;
+  pages = g.pages;
+  mapped = g.mapped;
+  small = g.small;
+  apart = g.waiting.apart;
+  dead = g.waiting.dead;
+}
+
 -- no two objects that are kept have one block
-pub same_object : (w : Space) (a b : ℕ) (o p : ObjectFact) → ObjectsAgree w → ArePlaced w.heap.frames w.heap.held → IsKept w a o → IsKept w b p → block_of o ≡ block_of p → a ≡ b
+pub same_object : (w : Space) (a b : ℕ) (o p : ObjectFact) → ObjectsStand w → ArePlaced w.heap.frames w.heap.held → IsKept w a o → IsKept w b p → block_of o ≡ block_of p → a ≡ b
 same_object w a b o p g h k l e =
     let x = (lies w.heap.frames w.heap.held o h (g.held a o k)).canon in
     let y = (lies w.heap.frames w.heap.held p h (g.held b p l)).canon in
@@ -26,22 +61,22 @@ same_object w a b o p g h k l e =
 kept_waiting : (w : Space) (a : ℕ) (o : ObjectFact) → is_in w.waiting a ≡ true → fact w.objects a ≡ Some o → IsKept w a o
 kept_waiting w a o i f = (f, (let z : is_in w.waiting a ≡ true = i in grind (arith, nat_tests, z)))
 
-pub waiting_are_held : (w : Space) → ObjectsAgree w → AllHeld w.heap.held (waiting_blocks w)
+pub waiting_are_held : (w : Space) → ObjectsStand w → AllHeld w.heap.held (waiting_blocks w)
 waiting_are_held w g = waiting_all_held w.heap.held w.objects w.waiting (λ a o i f. g.held a o (kept_waiting w a o i f))
 
-pub waiting_are_different : (w : Space) → ObjectsAgree w → ArePlaced w.heap.frames w.heap.held → Different (waiting_blocks w)
-waiting_are_different w g h = waiting_differ w.objects w.waiting g.waiting.apart (λ a b o p i j e f s. same_object w a b o p g h (kept_waiting w a o i e) (kept_waiting w b p j f) s)
+pub waiting_are_different : (w : Space) → ObjectsStand w → ArePlaced w.heap.frames w.heap.held → Different (waiting_blocks w)
+waiting_are_different w g h = waiting_differ w.objects w.waiting g.apart (λ a b o p i j e f s. same_object w a b o p g h (kept_waiting w a o i e) (kept_waiting w b p j f) s)
 
-pub is_held_waiting : (w : Space) (block : Block) → ObjectsAgree w → is_held (waiting_blocks w) block ≡ true → is_held w.heap.held block ≡ true
+pub is_held_waiting : (w : Space) (block : Block) → ObjectsStand w → is_held (waiting_blocks w) block ≡ true → is_held w.heap.held block ≡ true
 is_held_waiting w block g e =
     let x = waiter w.objects w.waiting block e in
     ap (λ b. is_held w.heap.held b) (sym x.is) ∙ g.held x.object x.of (kept_waiting w x.object x.of x.waits x.is_fact)
 
 pub record LetsGo (w : Space) (t : KeptTables) (h : Heap) : Type 0 where
-  pub agrees : ObjectsAgree w
+  pub agrees : ObjectsStand w
   pub placed : ArePlaced w.heap.frames w.heap.held
   pub placed_now : ArePlaced h.frames h.held
-  pub pages : t.pages ≡ w.tables.pages
+  pub pages : (q : ℕ) → mapping_at t.pages q ≡ mapping_at w.tables.pages q
   pub frames : h.frames ≡ w.heap.frames
   pub held : (block : Block) → is_held h.held block ≡ (is_held w.heap.held block && not (is_held (waiting_blocks w) block))
   pub stays : (page : ℕ) → is_covered h.held page ≡ true → frame_of h.pages page ≡ frame_of w.heap.pages page
@@ -63,7 +98,7 @@ module _ (w : Space) (t : KeptTables) (h : Heap) (k : LetsGo w t h) where
       let x = waiter w.objects w.waiting (block_of o) e in
       let same = same_object w a x.object o x.of k.agrees k.placed (was_kept a o l) (kept_waiting w x.object x.of x.waits x.is_fact) (sym x.is) in
       let one : fact w.objects x.object ≡ Some o = subst (λ y. fact w.objects y ≡ Some o) same l.0 in
-      absurd (let dead = k.agrees.waiting.dead x.object o x.waits one in let live = l.1 in let z : ⊥ = grind (arith, dead, live) in z)
+      absurd (let dead = k.agrees.dead x.object o x.waits one in let live = l.1 in let z : ⊥ = grind (arith, dead, live) in z)
 
   held_left : (a : ℕ) (o : ObjectFact) → IsLive w a o → is_held h.held (block_of o) ≡ true
   held_left a o l =
@@ -90,14 +125,14 @@ module _ (w : Space) (t : KeptTables) (h : Heap) (k : LetsGo w t h) where
   left_agrees = record {
     granted = k.agrees.granted;
     limit = k.agrees.limit;
-    canonical = λ q c. ap (λ ps. mapping_at ps q) k.pages ∙ k.agrees.canonical q c;
-    shadows = λ q c. ap (λ ps. is_some (mapping_at ps q)) k.pages ∙ k.agrees.shadows q c;
+    canonical = λ q c. k.pages q ∙ k.agrees.canonical q c;
+    shadows = λ q c. ap is_some (k.pages q) ∙ k.agrees.shadows q c;
     held = λ a o l. held_left a o (live_kept a o l);
     own = λ a b o p l m e. k.agrees.own a b o p (was_kept a o (live_kept a o l)) (was_kept b p (live_kept b p m)) e;
     backed = backed_left;
     pages = λ a o l. k.agrees.pages a o (was_kept a o (live_kept a o l));
     mapped = λ a i o l less.
-        ap (λ ps. mapping_at ps (o.first + i)) k.pages ∙ k.agrees.mapped a i o l less
+        k.pages (o.first + i) ∙ k.agrees.mapped a i o l less
         ∙ ap (option_map read_write_at) (sym (k.stays (o.canon / 4096 + i)
         (object_covered h.frames h.held o i k.placed_now (held_left a o l) (k.agrees.pages a o (was_kept a o l)) less)));
     small = λ a o l. subst (λ n. o.pages ≤ n) (sym k.frames) (k.agrees.small a o l);

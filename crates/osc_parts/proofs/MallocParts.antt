@@ -55,6 +55,7 @@ use Rattle.osc_parts.specs.MallocLaws.{MallocsFit, MallocsTakeNeed}
 use Rattle.osc_parts.specs.PlanFits.{PlanFits}
 use Rattle.osc_parts.proofs.JobCounts.{pushed_both, pushed_weaker, IsOf, map_pages-links, cut-few, length-mapped}
 use Rattle.osc_parts.proofs.Lists.{grown, get_append, get_end, get_within, any_at}
+use Rattle.osc_parts.proofs.PlacingParts as placing
 use Rattle.osc_parts.proofs.Trading.{held_is, held_once, held_taken, fit_after, over, trades_both, back-trades, map_pages-trades}
 use Rattle.osc_parts.proofs.Shapes.{map_pages-adds, map_pages-agrees, map_pages-taken}
 use Rattle.osc_parts.proofs.Settling.{settled_frames, heap_frames, Rest, parts_after, keeps_fits, unchanged_fits}
@@ -79,15 +80,6 @@ module _ (batch : ℕ) (entries : ℕ → ℕ → ℕ) (words : List ℕ) (regio
       let a = f.0 in
       let b = f.1 in
       record { settled = s; needs = grind (arith, nat_tests, b); marked = grind (arith, nat_tests, a) }
-
-pub back_taken : (count page : ℕ) (b : Backing) (f : ℕ) → slice_get b.free f ≡ Some false → slice_get (back count page b).free f ≡ Some false
-unfolding back
-back_taken zero page b f e = e
-back_taken (suc count) page b f e = back_taken count (page + 1) (back_by page (position (λ (x : Bool). x) b.free) b) f (go (position (λ (x : Bool). x) b.free))
-  where
-    go : (x : Option ℕ) → slice_get (back_by page x b).free f ≡ Some false
-    go None = e
-    go (Some g) = let at = get-set b.free g f false in grind (arith, nat_tests, at, e)
 
 some_of : (o : Option ℕ) → is_some (option_map read_write_at o) ≡ is_some o
 some_of None = refl
@@ -136,61 +128,38 @@ module _ (batch : ℕ) (entries : ℕ → ℕ → ℕ) (words : List ℕ) (regio
   abbrev after : Draft
   after = (malloc_in n the_block d).draft
 
+  needs_block : block_need d (room_of n) ≤ free_count d.free
+  needs_block = let q = m.needs in omega (arith, q)
+
   frames : FramesFit d.space d.free
-  frames = settled_frames Oscar d.space regions d.free m.settled.parts.agrees
+  frames = placing.frames Oscar batch entries words regions n d m.settled needs_block
 
   agree : FramesAgree d.space.heap d.free
-  agree = heap_frames d.space d.free m.settled.parts.agrees.frames frames
+  agree = placing.agree Oscar batch entries words regions n d m.settled needs_block
 
-  room : IsRoom (room_of n)
-  room = room_is_room n
+  pub room : IsRoom (room_of n)
+  room = placing.room Oscar batch entries words regions n d m.settled needs_block
 
-  keeps : Keeps d.space.heap d.free placed
-  keeps = place_keeps d.space.heap (room_of n) d.free m.settled.parts.heap agree room (let q = m.needs in omega (arith, q))
+  pub keeps : Keeps d.space.heap d.free placed
+  keeps = placing.keeps Oscar batch entries words regions n d m.settled needs_block
 
-  goes : Next d.space.heap (room_of n) d.free
-  goes = next d.space.heap (room_of n) d.free m.settled.parts.heap agree room (let q = m.needs in omega (arith, q))
+  pub goes : Next d.space.heap (room_of n) d.free
+  goes = placing.goes Oscar batch entries words regions n d m.settled needs_block
 
   held_now : placed.heap.held ≡ with_block the_block d.space.heap.held
-  held_now =
-      let x = goes in
-      ap (λ (p : HeapAndFree). p.heap.held) (place_is d.space.heap (room_of n) d.free room x) ∙ ap (λ (b : Block). with_block b d.space.heap.held) (sym x.block)
+  held_now = placing.held_now Oscar batch entries words regions n d m.settled needs_block
 
-  -- the frames that the block leaves
-  left : free_count placed.free + block_need d (room_of n) ≡ free_count d.free
-  left =
-      let k = keeps in
-      let x = goes in
-      let up = k.add_up in
-      let h = held_now in
-      let c : length placed.heap.pages ≡ block_frames d.space.heap.frames (with_block (block_at_slot d.space.heap.frames (room_of n) x.slot) d.space.heap.held) =
-      k.is_heap.count ∙ ap (λ f. block_frames f placed.heap.held) k.same_frames ∙ ap (block_frames d.space.heap.frames) (h ∙ ap (λ (b : Block). with_block b d.space.heap.held) x.block) in
-      let b = m.settled.parts.heap.count in
-      let f = x.fresh.more in
-      omega (arith, up, c, b, f)
+  pub left : free_count placed.free + block_need d (room_of n) ≡ free_count d.free
+  left = placing.left Oscar batch entries words regions n d m.settled needs_block
 
-  -- ---- frames
-  placed_space : Space
-  placed_space = record (d.space) { heap = placed.heap }
+  pub place_trades : Trades d.space d.free (record (d.space) { heap = placed.heap }) placed.free
+  place_trades = placing.place_trades Oscar batch entries words regions n d m.settled needs_block
 
-  place_trades : Trades d.space d.free (record (d.space) { heap = placed.heap }) placed.free
-  place_trades =
-      let x = goes in
-      subst (λ (p : HeapAndFree). Trades d.space d.free (record (d.space) { heap = p.heap }) p.free) (sym (place_is d.space.heap (room_of n) d.free room x))
-      (let t = back-trades d.space (block_need d (room_of n)) (page_of d.space.heap.frames (room_of n) x.slot) (record { pages = d.space.heap.pages; free = d.free }) in
-      record { count = t.count; each = t.each; shared = t.shared })
-
-  takes_only : KeepsTaken d.free placed.free
-  takes_only = record {
-    size = place_trades.count;
-    taken = λ f e.
-        let x = goes in
-        subst (λ (p : HeapAndFree). slice_get p.free f ≡ Some false) (sym (place_is d.space.heap (room_of n) d.free room x))
-        (back_taken (block_need d (room_of n)) (page_of d.space.heap.frames (room_of n) x.slot) (record { pages = d.space.heap.pages; free = d.free }) f e);
-  }
+  pub takes_only : KeepsTaken d.free placed.free
+  takes_only = placing.takes_only Oscar batch entries words regions n d m.settled needs_block
 
   fit_placed : FramesFit (record (d.space) { heap = placed.heap }) placed.free
-  fit_placed = fit_after d.space (record (d.space) { heap = placed.heap }) d.free placed.free frames place_trades
+  fit_placed = placing.fit_placed Oscar batch entries words regions n d m.settled needs_block
 
   filled_trades : Trades d.space d.free filled.space filled.free
   filled_trades = let t = place_trades in record { count = t.count; each = t.each; shared = t.shared }
@@ -203,37 +172,19 @@ module _ (batch : ℕ) (entries : ℕ → ℕ → ℕ) (words : List ℕ) (regio
 
   -- ---- the block
   covered_now : (q : ℕ) → is_covered placed.heap.held q ≡ (is_on q the_block || is_covered d.space.heap.held q)
-  covered_now q = ap (λ held. is_covered held q) held_now ∙ any-insert (λ (b : Block). b.start) (λ b. is_on q b) the_block d.space.heap.held
+  covered_now = placing.covered_now Oscar batch entries words regions n d m.settled needs_block
 
-  has_frames : HasFrames placed.heap.pages the_block
-  has_frames =
-      let x = goes in
-      let l = lies_at d.space.heap.frames (room_of n) x.slot room in
-      record {
-        room = room;
-        lies = subst (λ (b : Block). (b.start % 4096 ≡ 0) ⊎ (b.start % 4096 + block_bytes (room_of n) ≤ 4096)) (sym x.block) l.0;
-        ends = subst (λ (b : Block). b.start % 4096 + block_bytes (room_of n) ≤ 4096 * shadow_pages (room_of n)) (sym x.block) l.1;
-        framed = λ page on. keeps.is_heap.covered page ∙ covered_now page ∙ ap (λ b. b || is_covered d.space.heap.held page) on;
-      }
+  pub has_frames : HasFrames placed.heap.pages the_block
+  has_frames = placing.has_frames Oscar batch entries words regions n d m.settled needs_block
 
   heap_taken_now : (f : ℕ) → 0 < among f (map heap_frame_of placed.heap.pages) → slice_get placed.free f ≡ Some false
-  heap_taken_now f l = held_taken (record (d.space) { heap = placed.heap }) placed.free f fit_placed (let a = held_is f (record (d.space) { heap = placed.heap }) in omega (arith, a, l))
+  heap_taken_now = placing.heap_taken_now Oscar batch entries words regions n d m.settled needs_block
 
   no_table : (f : ℕ) → IsFrameOf placed.heap.pages the_block f → IsNoTable d.space.tables f
-  no_table f i =
-      let l = block_frame placed.heap.pages the_block f has_frames i in
-      let once = held_once (record (d.space) { heap = placed.heap }) placed.free f fit_placed in
-      let a = held_is f (record (d.space) { heap = placed.heap }) in
-      (no_piece f d.space.tables.tables (omega (arith, l, once, a)), no_piece f d.space.tables.aside (omega (arith, l, once, a)))
+  no_table = placing.no_table Oscar batch entries words regions n d m.settled needs_block
 
-  -- ---- the words
   filled_agrees : AgreesAfter entries words (tables_of filled)
-  filled_agrees =
-      work_elsewhere_keeps entries words (record { tables = d.space.tables; free = placed.free; jobs = d.jobs }) (zero_block placed.heap.pages the_block ++ header_jobs placed.heap.pages the_block n)
-      (taking_keeps d.space.tables d.free placed.free _ m.settled.tables takes_only)
-      (all_elsewhere d.space.tables (zero_block placed.heap.pages the_block ++ header_jobs placed.heap.pages the_block n)
-      (all_weaker (IsFrameOf placed.heap.pages the_block) (IsNoTable d.space.tables) (zero_block placed.heap.pages the_block ++ header_jobs placed.heap.pages the_block n) no_table
-      (fill_where placed.heap.pages the_block n has_frames)))
+  filled_agrees = placing.filled_agrees Oscar batch entries words regions n d m.settled needs_block
 
   pub malloc_agrees : AgreesAfter entries words (tables_of after)
   malloc_agrees =
@@ -276,7 +227,7 @@ module _ (batch : ℕ) (entries : ℕ → ℕ → ℕ) (words : List ℕ) (regio
   abbrev is_new : ℕ → Bool
   is_new q = nat_le first q && nat_lt q (first + shadow_pages (room_of n))
 
-  mapped_now : (q : ℕ) → mapping_at after.space.tables.pages q ≡ cond (is_new q) (slice_get mappings (q - first)) (mapping_at d.space.tables.pages q)
+  pub mapped_now : (q : ℕ) → mapping_at after.space.tables.pages q ≡ cond (is_new q) (slice_get mappings (q - first)) (mapping_at d.space.tables.pages q)
   mapped_now q =
       subst (λ len. mapping_at after.space.tables.pages q ≡ cond (nat_le first q && nat_lt q (first + len)) (slice_get mappings (q - first)) (mapping_at d.space.tables.pages q)) size
       (maps.pages q)
@@ -473,22 +424,11 @@ module _ (batch : ℕ) (entries : ℕ → ℕ → ℕ) (words : List ℕ) (regio
   }
 
   -- ---- jobs
-  zero_few : length (zero_block placed.heap.pages the_block) ≤ shadow_pages (room_of n)
-  zero_few =
-      let a = length-mapped (λ (x : Stretch). ZeroWords (block_word placed.heap.pages the_block x.from) (words_in x)) (stretches 16 (block_bytes (room_of n))) in
-      let b = cut-few ((block_bytes (room_of n) + 4095) / 4096) 0 16 (block_bytes (room_of n)) in
-      let c = bytes_within (room_of n) 0 room in
-      omega (arith, a, b, c)
-
   filled_pushed : Pushed (IsOwn after.space) d.jobs filled.jobs (shadow_pages (room_of n) + 2)
-  filled_pushed = record {
-    more = zero_block placed.heap.pages the_block ++ header_jobs placed.heap.pages the_block n;
-    is = refl;
-    few = (let a = length-append (zero_block placed.heap.pages the_block) (header_jobs placed.heap.pages the_block n) in let b = zero_few in omega (arith, a, b));
-    within = all_weaker (IsFrameOf placed.heap.pages the_block) (IsOwn after.space) (zero_block placed.heap.pages the_block ++ header_jobs placed.heap.pages the_block n)
-        (λ f i. (let l = block_frame placed.heap.pages the_block f has_frames i in let a = held_is f after.space in omega (arith, l, a)))
-        (fill_where placed.heap.pages the_block n has_frames);
-  }
+  filled_pushed =
+      pushed_weaker (λ f. 0 < among f (map heap_frame_of placed.heap.pages)) (IsOwn after.space) d.jobs filled.jobs (shadow_pages (room_of n) + 2) (shadow_pages (room_of n) + 2)
+      (λ f l. (let a = held_is f after.space in omega (arith, l, a))) (omega arith)
+      (placing.filled_pushed Oscar batch entries words regions n d m.settled needs_block)
 
   pub malloc_pushes : PushesOwn d after
   malloc_pushes =

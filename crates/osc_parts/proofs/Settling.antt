@@ -142,7 +142,7 @@ keeps_fits kind batch entries words regions d answer e k t p q g j = record {
   agrees = λ now jobs a. a;
 }
 
-same_taken : (free : List Bool) → KeepsTaken free free
+pub same_taken : (free : List Bool) → KeepsTaken free free
 same_taken free = record { size = refl; taken = λ f e. e }
 
 -- a plan that is refused

@@ -21,7 +21,7 @@ pub record SameShape (t u : KeptTables) : Type 0 where
 pub same_shape : (t : KeptTables) → SameShape t t
 same_shape t = record { count = refl; room = refl; top = refl }
 
-then : (t u v : KeptTables) → SameShape t u → SameShape u v → SameShape t v
+pub then : (t u v : KeptTables) → SameShape t u → SameShape u v → SameShape t v
 then t u v a b = record { count = b.count ∙ a.count; room = b.room ∙ a.room; top = b.top ∙ a.top }
 
 -- a mapping only adds tables
@@ -110,14 +110,14 @@ pub record Unmaps (t u : KeptTables) : Type 0 where
   pub tables : u.tables ≡ t.tables
   pub aside : u.aside ≡ t.aside
 
-unmap_page-shape : (n : ℕ) (c : Changed) → Unmaps c.tables (unmap_page n c).tables
+pub unmap_page-shape : (n : ℕ) (c : Changed) → Unmaps c.tables (unmap_page n c).tables
 unmap_page-shape n c = go (frame_of c.tables.tables 0 (n / 512))
   where
     go : (x : Option ℕ) → Unmaps c.tables (leaf_cleared n x (record c { tables = record (c.tables) { pages = without_page n c.tables.pages } })).tables
     go None = record { shape = record { count = refl; room = refl; top = refl }; tables = refl; aside = refl }
     go (Some t) = record { shape = record { count = refl; room = refl; top = refl }; tables = refl; aside = refl }
 
-unmap_page-free : (n : ℕ) (c : Changed) → (unmap_page n c).free ≡ c.free
+pub unmap_page-free : (n : ℕ) (c : Changed) → (unmap_page n c).free ≡ c.free
 unmap_page-free n c = go (frame_of c.tables.tables 0 (n / 512))
   where
     go : (x : Option ℕ) → (leaf_cleared n x (record c { tables = record (c.tables) { pages = without_page n c.tables.pages } })).free ≡ c.free
@@ -135,7 +135,7 @@ pub unmap_all-free : (count first : ℕ) (c : Changed) → (unmap_all (range_wit
 unmap_all-free zero first c = refl
 unmap_all-free (suc count) first c = unmap_all-free count (first + 1) (unmap_page first c) ∙ unmap_page-free first c
 
-unmap_page-pages : (n : ℕ) (c : Changed) (q : ℕ) → mapping_at (unmap_page n c).tables.pages q ≡ cond (n == q) None (mapping_at c.tables.pages q)
+pub unmap_page-pages : (n : ℕ) (c : Changed) (q : ℕ) → mapping_at (unmap_page n c).tables.pages q ≡ cond (n == q) None (mapping_at c.tables.pages q)
 unmap_page-pages n c q = go (frame_of c.tables.tables 0 (n / 512))
   where
     go : (table : Option ℕ) → mapping_at (leaf_cleared n table (record c { tables = record (c.tables) { pages = without_page n c.tables.pages } })).tables.pages q ≡ cond (n == q) None (mapping_at c.tables.pages q)

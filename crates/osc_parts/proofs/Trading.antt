@@ -222,7 +222,7 @@ vacant_once free f = go (slice_get free f)
     go (Some false) = omega arith
     go None = omega arith
 
-there : (free after : List Bool) (f : ℕ) (b : Bool) → slice_get free f ≡ Some b → length after ≡ length free → vacant after f ≡ 0 → slice_get after f ≡ Some false
+pub there : (free after : List Bool) (f : ℕ) (b : Bool) → slice_get free f ≡ Some b → length after ≡ length free → vacant after f ≡ 0 → slice_get after f ≡ Some false
 there [] after f b e l v = absurd (let z : ⊥ = grind (arith, e) in z)
 there (x ∷ free) [] f b e l v = absurd (omega arith)
 there (x ∷ free) (true ∷ after) zero b e l v = absurd (let z : ⊥ = omega (arith, v) in z)

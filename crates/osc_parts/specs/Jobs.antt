@@ -5,11 +5,12 @@ use Rattle.osc_word.specs.declared.job_list.Job.TheVariants.{PutWord, ZeroWords,
 use Rattle.osc_space.specs.Space.{Space, Draft}
 use Rattle.osc_parts.specs.Frames.{among, frames_held}
 
--- all that the job writes lies in one frame, and of that frame this is true
+-- all that the job reads or writes lies within one frame each, and of the frame that it writes this is
+-- true
 abbrev pub WritesWhere : (ℕ → Type 0) → Job → Type 0
 WritesWhere own (PutWord at value) = (at.index < 512) × own at.frame
 WritesWhere own (ZeroWords at count) = (at.index + count ≤ 512) × own at.frame
-WritesWhere own (CopyWords from to count) = (to.index + count ≤ 512) × own to.frame
+WritesWhere own (CopyWords from to count) = (from.index + count ≤ 512) × (to.index + count ≤ 512) × own to.frame
 WritesWhere own (CopyPart from to bytes) = (to.index < 512) × own to.frame
 WritesWhere own (CopyTable from to) = own to
 WritesWhere own (ClearBox hart) = Unit {0}

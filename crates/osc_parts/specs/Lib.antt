@@ -4,3 +4,6 @@ pub mod Jobs
 pub mod PlanFits
 pub mod MallocLaws
 pub mod FreeLaws
+pub mod ReallocLaws
+pub mod PlainLaws
+pub mod OthersFit

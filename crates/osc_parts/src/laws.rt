@@ -3,6 +3,9 @@
 
 ghost use Rattle.osc_parts.specs.MallocLaws.{MallocsFit, MallocsTakeNeed};
 ghost use Rattle.osc_parts.specs.FreeLaws.{FreesFit};
+ghost use Rattle.osc_parts.specs.ReallocLaws.{ReallocsFit};
+ghost use Rattle.osc_parts.specs.PlainLaws.{PlainMallocsFit, PlainFreesFit, PlainReallocsFit};
+ghost use Rattle.osc_parts.specs.OthersFit.{PlansKeepOthers};
 
 /// A malloc leaves a memory whose parts fit and whose words agree with its tables once its jobs are
 /// done. It takes exactly the frames that its block and its tables need, all of them free before, and
@@ -16,4 +19,23 @@ pub fn malloc_fits()
 /// returns exactly the frames that the process holds no more are free, and its parts fit again.
 pub fn free_fits()
     ensures { FreesFit }
+{}
+
+/// A realloc, whether its block stays or moves, leaves each frame taken until it returns, and then
+/// parts that fit: none waits any more, and only live objects hold blocks.
+pub fn realloc_fits()
+    ensures { ReallocsFit }
+{}
+
+/// The plans of the plain heap: a page is mapped exactly while it holds a block, and its frame is free
+/// only once the call has returned.
+pub fn plain_heap_fits()
+    ensures malloc { PlainMallocsFit }
+    ensures free { PlainFreesFit }
+    ensures realloc { PlainReallocsFit }
+{}
+
+/// A call of one process leaves all of another's memory, from the plan until the return and after it.
+pub fn others_fit()
+    ensures { PlansKeepOthers }
 {}
