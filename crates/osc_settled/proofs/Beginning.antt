@@ -115,7 +115,7 @@ begun_waits words k c (begun.Header first second) r w n = w refl
 begun_waits words k c begun.Planned r w n = absurd (n refl)
 
 begun_commits : (words : List ℕ) (k : KernelState) (c : Calling) (b : Begun) → AtRest words k → (goes_ahead b ≡ true → KernelFits words (taken (Waiting c) k))
-    → is_covered k.config.heap (meant c.call) ≡ true → KernelFits words (begin_as b c k).kernel
+    → is_covered (meant c.call) ≡ true → KernelFits words (begin_as b c k).kernel
 begun_commits words k c begun.Again r w v = rests_retrying words k r
 begun_commits words k c begun.JournalFull r w v = rests_retrying words k r
 begun_commits words k c begun.Gone r w v = rests_leaving words k c.hart r

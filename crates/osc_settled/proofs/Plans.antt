@@ -1,7 +1,5 @@
 -- Each call's plan keeps what holds, by cases on the call.
 use Rattle.std.proofs.Common.{ℕ, zero, suc, ◌+◌, ◌≡◌, ◌==◌, Bool, true, false, Option, Some, None, List, [], ◌∷◌, ◌++◌, slice_get, arith, refl, ap, sym, ◌∙◌, subst, ◌%◌, unwrap_or}
-use Rattle.osc_word.specs.declared.settings.HeapKind.{HeapKind}
-use Rattle.osc_word.specs.declared.settings.HeapKind.TheVariants.{Oscar, Plain}
 use Rattle.osc_word.specs.declared.calls.Call.{Call}
 use Rattle.osc_word.specs.declared.calls.Call.TheVariants as calls
 use Rattle.osc_word.specs.declared.calls.Answer.TheVariants as answers
@@ -15,29 +13,25 @@ use Rattle.osc_calls.specs.Planned.{Planned}
 use Rattle.osc_calls.specs.Plan.{plan_meant, plan_of, committed, plan_by, plan_waiting, plan}
 use Rattle.osc_settled.specs.Records.{is_living}
 use Rattle.osc_settled.specs.KernelFits.{KernelFits}
-use Rattle.osc_settled.specs.KeepLaws.{is_oscar, is_covered, PlansKeep}
+use Rattle.osc_settled.specs.KeepLaws.{is_covered, PlansKeep}
 use Rattle.osc_settled.proofs.Commits.{Owed, commits}
 use Rattle.osc_settled.proofs.Outcomes.{Asks, asks, caller_lives}
-use Rattle.osc_settled.proofs.Answering.{answered_owed, join_no_end, wait_no_end, malloc_owed, free_owed}
+use Rattle.osc_settled.proofs.Answering.{answered_owed, join_no_end, wait_no_end, malloc_owed, free_owed, realloc_owed}
 use Rattle.osc_settled.proofs.Ending.{threads_stay, ends_owed, done_owed}
 use Rattle.osc_settled.proofs.Spawning.{spawn_owed}
 use Rattle.osc_settled.proofs.Writing.{write_owed}
-
-the_oscar : (kind : HeapKind) → is_oscar kind ≡ true → kind ≡ Oscar
-the_oscar Oscar e = refl
-the_oscar Plain e = absurd (let z : ⊥ = grind (arith, e) in z)
 
 no_more : {P : Type 0} → false ≡ true → P
 no_more e = absurd (let z : ⊥ = grind (arith, e) in z)
 
 pub row : (words : List ℕ) (found : Found) (c : Calling) (p : Process) (k : KernelState) (call : Call)
-    → Asks words k c → process_at k c.pid ≡ Some p → is_covered k.config.heap call ≡ true → Owed words c (plan_meant found c p k call)
+    → Asks words k c → process_at k c.pid ≡ Some p → is_covered call ≡ true → Owed words c (plan_meant found c p k call)
 row words found c p k (calls.Exit status) a e v =
     ends_owed words k c (status % 64) k.threads k.reports a (threads_stay k.processes k.threads k.records None c.hart a.records) refl
 row words found c p k (calls.Write buf len) a e v = write_owed words k c p buf len a
-row words found c p k (calls.Malloc size) a e v = malloc_owed words k c p size a e (the_oscar k.config.heap v)
-row words found c p k (calls.Free pointer) a e v = free_owed words k c p pointer found a e (the_oscar k.config.heap v)
-row words found c p k (calls.Realloc pointer size) a e v = no_more v
+row words found c p k (calls.Malloc size) a e v = malloc_owed words k c p size a e
+row words found c p k (calls.Free pointer) a e v = free_owed words k c p pointer found a e
+row words found c p k (calls.Realloc pointer size) a e v = realloc_owed words k c p pointer size found a e
 row words found c p k calls.Fork a e v = no_more v
 row words found c p k (calls.Spawn pc sp arg) a e v = spawn_owed words k c p pc sp arg a e
 row words found c p k (calls.Join number) a e v =
@@ -52,7 +46,7 @@ row words found c p k (calls.End fault) a e v =
 
 -- the call that waits commits
 by_process : (words : List ℕ) (found : Found) (k : KernelState) (c : Calling) (o : Option Process) → Asks words k c → process_at k c.pid ≡ o
-    → is_covered k.config.heap (meant c.call) ≡ true → KernelFits words (plan_by found c o k).kernel
+    → is_covered (meant c.call) ≡ true → KernelFits words (plan_by found c o k).kernel
 by_process words found k c None a e v = absurd (let z = sym (caller_lives words k c a) ∙ ap is_living e in let w : ⊥ = grind (arith, z) in w)
 by_process words found k c (Some p) a e v = commits words c (plan_of found c p k) (row words found c p k (meant c.call) a e v)
 

@@ -1,7 +1,5 @@
 -- The laws of steps: each keeps what holds of the kernel and of the words.
 use Rattle.std.specs.Prelude.{ℕ, ◌≡◌, ◌≢◌, Bool, true, false, List, [], ◌∷◌, Some, None, sum_by, slice_get}
-use Rattle.osc_word.specs.declared.settings.HeapKind.{HeapKind}
-use Rattle.osc_word.specs.declared.settings.HeapKind.TheVariants.{Oscar, Plain}
 use Rattle.osc_word.specs.declared.calls.Call.{Call}
 use Rattle.osc_word.specs.declared.calls.Call.TheVariants as calls
 use Rattle.osc_word.specs.declared.calls.Request.{Request}
@@ -45,24 +43,17 @@ OutcomesKeep =
     → KernelFits words (committed c (outcome_planned c.pid p k o))
 
 -- ---- plans
-abbrev pub is_oscar : HeapKind → Bool
-is_oscar Oscar = true
-is_oscar Plain = false
-
 -- the calls whose plans are proved to keep what holds
-abbrev pub is_covered : HeapKind → Call → Bool
-is_covered kind (calls.Malloc size) = is_oscar kind
-is_covered kind (calls.Free pointer) = is_oscar kind
-is_covered kind (calls.Realloc pointer size) = false
-is_covered kind calls.Fork = false
-is_covered kind (calls.Share count) = false
-is_covered kind _ = true
+abbrev pub is_covered : Call → Bool
+is_covered calls.Fork = false
+is_covered (calls.Share count) = false
+is_covered _ = true
 
 -- the plan of a call that waits, refused or not
 abbrev pub PlansKeep : Type 0
 PlansKeep =
     (words : List ℕ) (found : Found) (k : KernelState) (c : Calling)
-    → KernelFits words k → k.under_way ≡ Waiting c → is_covered k.config.heap (meant c.call) ≡ true
+    → KernelFits words k → k.under_way ≡ Waiting c → is_covered (meant c.call) ≡ true
     → KernelFits words (plan found k).kernel
 
 -- ---- begin
@@ -70,7 +61,7 @@ PlansKeep =
 pub record BeginKeeps (words : List ℕ) (hart pc : ℕ) (regs : List ℕ) (request : Request) (k : KernelState) : Type 0 where
   pub waits : (begin hart regs pc request k).begun ≢ begun.Planned → KernelFits words (begin hart regs pc request k).kernel
   pub commits : (c : Calling) → calling_of hart regs pc request (slice_get k.records hart) ≡ Some c
-      → is_covered k.config.heap (meant c.call) ≡ true → KernelFits words (begin hart regs pc request k).kernel
+      → is_covered (meant c.call) ≡ true → KernelFits words (begin hart regs pc request k).kernel
 
 abbrev pub BeginsKeep : Type 0
 BeginsKeep =
