@@ -211,7 +211,7 @@ trim_where pages block bytes size k l =
     ((omega arith, record { offset = 8; within = omega (arith, l); is = refl }), tt)
 
 -- ---- the mappings of a block's pages
-reads : (f : ℕ) → f < 4096 → ReadsAsLeaf (read_write_at f)
+pub reads : (f : ℕ) → f < 4096 → ReadsAsLeaf (read_write_at f)
 reads f l = leaves_read_back f read_write (omega (arith, l)) (omega arith) refl
 
 pub all_read : (pages : List HeapPage) (count first : ℕ) → ((page : ℕ) → first ≤ page → page < first + count → frame_at pages page < 4096) → AllRead (mappings_of pages first count)

@@ -78,7 +78,7 @@ linked-trades s l n None (Some parent) (Some g) c e = record {
 link-trades : (s : Space) (l n : ℕ) (c : Changed) → TradesIn s c (link l n c)
 link-trades s l n c = linked-trades s l n (frame_of c.tables.tables l n) (frame_of c.tables.tables (suc l) (n / 512)) (position (λ b. b) c.free) c refl
 
-link_all-trades : (s : Space) (l n : ℕ) (c : Changed) → TradesIn s c (link_all l n c)
+pub link_all-trades : (s : Space) (l n : ℕ) (c : Changed) → TradesIn s c (link_all l n c)
 unfolding link_all
 link_all-trades s zero n c = trades_none (over s c.tables) c.free
 link_all-trades s (suc l) n c =

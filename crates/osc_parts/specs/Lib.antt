@@ -7,3 +7,5 @@ pub mod FreeLaws
 pub mod ReallocLaws
 pub mod PlainLaws
 pub mod OthersFit
+pub mod ShareLaws
+pub mod EndLaws

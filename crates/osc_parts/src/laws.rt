@@ -6,6 +6,8 @@ ghost use Rattle.osc_parts.specs.FreeLaws.{FreesFit};
 ghost use Rattle.osc_parts.specs.ReallocLaws.{ReallocsFit};
 ghost use Rattle.osc_parts.specs.PlainLaws.{PlainMallocsFit, PlainFreesFit, PlainReallocsFit};
 ghost use Rattle.osc_parts.specs.OthersFit.{PlansKeepOthers};
+ghost use Rattle.osc_parts.specs.ShareLaws.{SharesFit};
+ghost use Rattle.osc_parts.specs.EndLaws.{EndsFit};
 
 /// A malloc leaves a memory whose parts fit and whose words agree with its tables once its jobs are
 /// done. It takes exactly the frames that its block and its tables need, all of them free before, and
@@ -38,4 +40,16 @@ pub fn plain_heap_fits()
 /// A call of one process leaves all of another's memory, from the plan until the return and after it.
 pub fn others_fit()
     ensures { PlansKeepOthers }
+{}
+
+/// A share that is not refused leaves parts that fit with the new regions, takes exactly its pages and
+/// the tables that they need, and leaves all of other processes' memories.
+pub fn share_fits()
+    ensures { SharesFit }
+{}
+
+/// The end of a process frees exactly its own frames and those of regions that nobody holds any more,
+/// and leaves all of other processes' memories.
+pub fn end_fits()
+    ensures { EndsFit }
 {}
