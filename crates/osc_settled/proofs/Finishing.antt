@@ -151,7 +151,7 @@ return_memory words m pid p closing fit none at lives = record {
         fit.bare q status r (sym (get-put_other m.processes pid q (returned_process p (finished closing (at_rest p.space m.free))) n) ∙ g) over
 
 -- ---- the kernel
-returned_rests : (words : List ℕ) (k : KernelState) (done : Committed) (p : Process) → SizesFit words k → MemoryFits words (memory_of k) (closing_of (Returning done))
+pub returned_rests : (words : List ℕ) (k : KernelState) (done : Committed) (p : Process) → SizesFit words k → MemoryFits words (memory_of k) (closing_of (Returning done))
     → RecordsFit k.processes k.threads k.records None → ReturningFits k done → k.jobs ≡ [] → process_at k done.calling.pid ≡ Some p
     → AtRest words (with_draft done.calling.pid p (finished done.closing (draft_of k p)) k)
 returned_rests words k done p s m r u none e =
@@ -195,7 +195,7 @@ kept_rests : (words : List ℕ) (k : KernelState) (hart : ℕ) (kept : HartRecor
 kept_rests words k hart kept e r = subst (λ (rs : List HartRecord). AtRest words (record k { records = rs })) (sym (put_itself k.records hart kept e)) r
 
 -- a stopped hart that leaves is idle
-left_rests : (words : List ℕ) (k : KernelState) (hart : ℕ) (kept : Option HartRecord) → slice_get k.records hart ≡ kept → AtRest words k → AtRest words (hart_left hart kept k)
+pub left_rests : (words : List ℕ) (k : KernelState) (hart : ℕ) (kept : Option HartRecord) → slice_get k.records hart ≡ kept → AtRest words k → AtRest words (hart_left hart kept k)
 left_rests words k hart None e r = r
 left_rests words k hart (Some Idle) e r = kept_rests words k hart Idle e r
 left_rests words k hart (Some (Runs pid thread)) e r = kept_rests words k hart (Runs pid thread) e r
@@ -216,32 +216,3 @@ left_rests words k hart (Some (Stopped pid)) e r = record {
   records = records_idle k.processes k.threads k.threads k.records None hart r.records (threads_stay k.processes k.threads k.records None hart r.records);
   jobs = r.jobs;
 }
-
-settled_rests : (words : List ℕ) (k : KernelState) (done : Committed) (p : Process) (e : Effect) → SizesFit words k → MemoryFits words (memory_of k) (closing_of (Returning done))
-    → RecordsFit k.processes k.threads k.records (ends_by done.calling.pid e) → ReturningFits k done → k.jobs ≡ [] → process_at k done.calling.pid ≡ Some p → ends_by done.calling.pid e ≡ None
-    → AtRest words (settled done p e k)
-settled_rests words k done p Nothing s m r u none at stays = returned_rests words k done p s m r u none at
-settled_rests words k done p Clears s m r u none at stays = returned_rests words k done p s m r u none at
-settled_rests words k done p (Starts hart start) s m r u none at stays = returned_rests words k done p s m r u none at
-settled_rests words k done p (Ends status) s m r u none at stays = absurd (let z : ⊥ = grind (arith, stays) in z)
-
-returned_fits : (words : List ℕ) (k : KernelState) (done : Committed) (o : Option Process) → SizesFit words k → MemoryFits words (memory_of k) (closing_of (Returning done))
-    → RecordsFit k.processes k.threads k.records (ends_by done.calling.pid done.effect) → ReturningFits k done → k.jobs ≡ [] → process_at k done.calling.pid ≡ o
-    → ends_by done.calling.pid done.effect ≡ None → KernelFits words (returned done o k).kernel
-returned_fits words k done None s m r u none e stays = absurd (let z = sym u.lives ∙ ap is_living e in let w : ⊥ = grind (arith, z) in w)
-returned_fits words k done (Some p) s m r u none e stays =
-    rests_quiet words (settled done p done.effect k) (settled_rests words k done p done.effect s m r u none e stays)
-
-finish_fits : (words : List ℕ) (k : KernelState) (u : UnderWay) → SizesFit words k → MemoryFits words (memory_of k) (closing_of u)
-    → RecordsFit k.processes k.threads k.records (ending u) → UnderWayFits k u → k.jobs ≡ [] → ending u ≡ None → KernelFits words (finish_by u k).kernel
-finish_fits words k Quiet s m r u none stays = rests_quiet words k (record { sizes = s; memory = m; records = r; jobs = none })
-finish_fits words k Retrying s m r u none stays = rests_quiet words k (record { sizes = s; memory = m; records = r; jobs = none })
-finish_fits words k (Leaving hart) s m r u none stays =
-    rests_quiet words (hart_left hart (slice_get k.records hart) k)
-    (left_rests words k hart (slice_get k.records hart) refl (record { sizes = s; memory = m; records = r; jobs = none }))
-finish_fits words k (Waiting c) s m r u none stays = rests_quiet words k (record { sizes = s; memory = m; records = r; jobs = none })
-finish_fits words k (Returning done) s m r u none stays = returned_fits words k done (process_at k done.calling.pid) s m r u none refl stays
-
-pub finish_keeps : FinishKeeps
-unfolding finish
-finish_keeps words k f none stays = finish_fits words k k.under_way f.sizes f.memory f.records f.under_way none stays

@@ -12,3 +12,5 @@ pub mod Writing
 pub mod Plans
 pub mod Beginning
 pub mod Finishing
+pub mod Gone
+pub mod Returning

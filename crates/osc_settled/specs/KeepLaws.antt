@@ -18,7 +18,6 @@ use Rattle.osc_calls.specs.Planned.{outcome_planned}
 use Rattle.osc_calls.specs.Plan.{committed, plan}
 use Rattle.osc_calls.specs.JobDone.{job_done, entries}
 use Rattle.osc_calls.specs.Labels.{out_count}
-use Rattle.osc_settled.specs.Records.{ending}
 use Rattle.osc_settled.specs.UnderWay.{is_end}
 use Rattle.osc_settled.specs.KernelFits.{KernelFits}
 
@@ -69,8 +68,7 @@ BeginsKeep =
     → KernelFits words k → k.under_way ≡ Quiet → BeginKeeps words hart pc regs request k
 
 -- ---- finish
--- the kernel is given back once no job is pending, where no process ends
+-- the kernel is given back once no job is pending
 abbrev pub FinishKeeps : Type 0
 FinishKeeps =
-    (words : List ℕ) (k : KernelState) → KernelFits words k → k.jobs ≡ [] → ending k.under_way ≡ None
-    → KernelFits words (finish k).kernel
+    (words : List ℕ) (k : KernelState) → KernelFits words k → k.jobs ≡ [] → KernelFits words (finish k).kernel
