@@ -19,6 +19,10 @@ use Rattle.osc_parts.specs.PlanFits.{PlanFits}
 use Rattle.osc_parts.specs.FreeLaws.{HasTerms}
 use Rattle.osc_parts.proofs.MallocParts.{mallocs_fit}
 use Rattle.osc_parts.proofs.FreeReturn.{frees_fit}
+use Rattle.osc_parts.proofs.ReallocKinds.{reallocs_fit}
+use Rattle.osc_parts.proofs.PlainMalloc.{plain_mallocs_fit}
+use Rattle.osc_parts.proofs.PlainFree.{plain_frees_fit}
+use Rattle.osc_parts.proofs.PlainRealloc.{plain_reallocs_fit}
 use Rattle.osc_parts.proofs.Settling.{unchanged_fits}
 use Rattle.osc_word.specs.declared.settings.Config.{Config}
 use Rattle.osc_word.specs.Limits.{first_fault}
@@ -38,7 +42,7 @@ use Rattle.osc_settled.specs.KeepLaws.{FitsCaller}
 use Rattle.osc_settled.proofs.Memories.{returns_keeps}
 use Rattle.osc_settled.proofs.Commits.{lives_none, Owed}
 use Rattle.osc_settled.proofs.Outcomes.{Asks, caller_lives, closes_nothing, outcome_owed}
-use Rattle.osc_settled.proofs.Silent.{outs, Silent, malloc_by-silent, free_of-silent}
+use Rattle.osc_settled.proofs.Silent.{outs, Silent, malloc_by-silent, free_of-silent, realloc_by-silent}
 
 -- ---- an answer alone
 pub answered_owed : (words : List ℕ) (k : KernelState) (c : Calling) (answer : Answer) → Asks words k c → is_end answer ≡ false → Owed words c (answered answer k)
@@ -85,35 +89,48 @@ pub fits_caller : (words : List ℕ) (k : KernelState) (c : Calling) (p : Proces
     → ((entries : ℕ → ℕ → ℕ) → PlanFits k.config.heap k.config.batch entries words k.regions (draft_of k p) o) → Silent (draft_of k p) o → FitsCaller words k p o
 fits_caller words k c p o a f s = record { each = f; answer = s.answer; writes = s.writes ∙ ap outs a.waits.jobs }
 
-malloc_fits : (kind : HeapKind) (batch : ℕ) (entries : ℕ → ℕ → ℕ) (words : List ℕ) (regions : Regions) (n : ℕ) (d : Draft) → kind ≡ Oscar
+malloc_fits : (kind : HeapKind) (batch : ℕ) (entries : ℕ → ℕ → ℕ) (words : List ℕ) (regions : Regions) (n : ℕ) (d : Draft)
     → Settled kind batch entries words regions d → PlanFits kind batch entries words regions d (malloc_by kind n d)
-malloc_fits kind batch entries words regions n d e s =
-    subst (λ h. PlanFits h batch entries words regions d (malloc_by h n d)) (sym e)
-    (mallocs_fit batch entries words regions n d (subst (λ h. Settled h batch entries words regions d) e s))
+malloc_fits Oscar batch entries words regions n d s = mallocs_fit batch entries words regions n d s
+malloc_fits Plain batch entries words regions n d s = plain_mallocs_fit batch entries words regions n d s
 
-pub malloc_owed : (words : List ℕ) (k : KernelState) (c : Calling) (p : Process) (n : ℕ) → Asks words k c → process_at k c.pid ≡ Some p → k.config.heap ≡ Oscar
+pub malloc_owed : (words : List ℕ) (k : KernelState) (c : Calling) (p : Process) (n : ℕ) → Asks words k c → process_at k c.pid ≡ Some p
     → Owed words c (outcome_planned c.pid p k (malloc_by k.config.heap n (draft_of k p)))
-malloc_owed words k c p n a e h =
+malloc_owed words k c p n a e =
     outcome_owed words k c p (malloc_by k.config.heap n (draft_of k p)) a e
     (fits_caller words k c p (malloc_by k.config.heap n (draft_of k p)) a
-    (λ entries. malloc_fits k.config.heap k.config.batch entries words k.regions n (draft_of k p) h (settled words k c p entries a e))
+    (λ entries. malloc_fits k.config.heap k.config.batch entries words k.regions n (draft_of k p) (settled words k c p entries a e))
     (malloc_by-silent k.config.heap n (draft_of k p)))
 
 free_fits : (kind : HeapKind) (batch : ℕ) (entries : ℕ → ℕ → ℕ) (words : List ℕ) (regions : Regions) (terms : Terms) (pointer : ℕ) (found : Found) (d : Draft)
-    → kind ≡ Oscar → HasTerms batch terms
-    → Settled kind batch entries words regions d → PlanFits kind batch entries words regions d (free_of kind terms pointer found d)
-free_fits kind batch entries words regions terms pointer found d e h s = go (pointer == 0)
-  where
-    go : (b : Bool) → PlanFits kind batch entries words regions d (cond b (unchanged answers.Nothing d) (free_by kind terms pointer found d))
-    go true = unchanged_fits kind batch entries words regions d answers.Nothing s
-    go false =
-        subst (λ x. PlanFits x batch entries words regions d (free_by x terms pointer found d)) (sym e)
-        (frees_fit batch entries words regions terms pointer found d (subst (λ x. Settled x batch entries words regions d) e s) h)
+    → HasTerms batch terms → Settled kind batch entries words regions d → PlanFits kind batch entries words regions d (free_by kind terms pointer found d)
+free_fits Oscar batch entries words regions terms pointer found d h s = frees_fit batch entries words regions terms pointer found d s h
+free_fits Plain batch entries words regions terms pointer found d h s = plain_frees_fit batch entries words regions terms.harts pointer d s h.harts
 
-pub free_owed : (words : List ℕ) (k : KernelState) (c : Calling) (p : Process) (pointer : ℕ) (found : Found) → Asks words k c → process_at k c.pid ≡ Some p → k.config.heap ≡ Oscar
+-- a free of 0 changes nothing
+null_fits : (kind : HeapKind) (batch : ℕ) (entries : ℕ → ℕ → ℕ) (words : List ℕ) (regions : Regions) (terms : Terms) (pointer : ℕ) (found : Found) (d : Draft) (null : Bool)
+    → HasTerms batch terms → Settled kind batch entries words regions d
+    → PlanFits kind batch entries words regions d (cond null (unchanged answers.Nothing d) (free_by kind terms pointer found d))
+null_fits kind batch entries words regions terms pointer found d true h s = unchanged_fits kind batch entries words regions d answers.Nothing s
+null_fits kind batch entries words regions terms pointer found d false h s = free_fits kind batch entries words regions terms pointer found d h s
+
+pub free_owed : (words : List ℕ) (k : KernelState) (c : Calling) (p : Process) (pointer : ℕ) (found : Found) → Asks words k c → process_at k c.pid ≡ Some p
     → Owed words c (outcome_planned c.pid p k (free_of k.config.heap (terms_of k) pointer found (draft_of k p)))
-free_owed words k c p pointer found a e h =
+free_owed words k c p pointer found a e =
     outcome_owed words k c p (free_of k.config.heap (terms_of k) pointer found (draft_of k p)) a e
     (fits_caller words k c p (free_of k.config.heap (terms_of k) pointer found (draft_of k p)) a
-    (λ entries. free_fits k.config.heap k.config.batch entries words k.regions (terms_of k) pointer found (draft_of k p) h (has_terms words k c a) (settled words k c p entries a e))
+    (λ entries. null_fits k.config.heap k.config.batch entries words k.regions (terms_of k) pointer found (draft_of k p) (pointer == 0) (has_terms words k c a) (settled words k c p entries a e))
     (free_of-silent k.config.heap (terms_of k) pointer found (draft_of k p)))
+
+realloc_fits : (kind : HeapKind) (batch : ℕ) (entries : ℕ → ℕ → ℕ) (words : List ℕ) (regions : Regions) (terms : Terms) (pointer n : ℕ) (found : Found) (d : Draft)
+    → HasTerms batch terms → Settled kind batch entries words regions d → PlanFits kind batch entries words regions d (realloc_by kind terms pointer n found d)
+realloc_fits Oscar batch entries words regions terms pointer n found d h s = reallocs_fit batch entries words regions terms pointer n found d s h
+realloc_fits Plain batch entries words regions terms pointer n found d h s = plain_reallocs_fit batch entries words regions terms.harts pointer n found.second d s h.harts
+
+pub realloc_owed : (words : List ℕ) (k : KernelState) (c : Calling) (p : Process) (pointer n : ℕ) (found : Found) → Asks words k c → process_at k c.pid ≡ Some p
+    → Owed words c (outcome_planned c.pid p k (realloc_by k.config.heap (terms_of k) pointer n found (draft_of k p)))
+realloc_owed words k c p pointer n found a e =
+    outcome_owed words k c p (realloc_by k.config.heap (terms_of k) pointer n found (draft_of k p)) a e
+    (fits_caller words k c p (realloc_by k.config.heap (terms_of k) pointer n found (draft_of k p)) a
+    (λ entries. realloc_fits k.config.heap k.config.batch entries words k.regions (terms_of k) pointer n found (draft_of k p) (has_terms words k c a) (settled words k c p entries a e))
+    (realloc_by-silent k.config.heap (terms_of k) pointer n found (draft_of k p)))

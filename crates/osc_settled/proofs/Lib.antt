@@ -9,3 +9,8 @@ pub mod Ending
 pub mod Jobs
 pub mod Spawning
 pub mod Writing
+pub mod Plans
+pub mod Beginning
+pub mod Finishing
+pub mod Gone
+pub mod Returning

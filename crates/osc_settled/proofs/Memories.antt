@@ -126,7 +126,7 @@ no_table f s e =
 job_elsewhere : (own : ℕ → Type 0) (t : KeptTables) (job : Job) → ((f : ℕ) → own f → IsNoTable t f) → WritesWhere own job → WritesElsewhere t job
 job_elsewhere own t (PutWord at value) h w = (w.0, h at.frame w.1)
 job_elsewhere own t (ZeroWords at count) h w = (w.0, h at.frame w.1)
-job_elsewhere own t (CopyWords from to count) h w = (w.0, h to.frame w.1)
+job_elsewhere own t (CopyWords from to count) h w = (w.1, h to.frame w.2)
 job_elsewhere own t (CopyPart from to bytes) h w = (w.0, h to.frame w.1)
 job_elsewhere own t (CopyTable from to) h w = h to w
 job_elsewhere own t (ClearBox hart) h w = tt

@@ -1,13 +1,21 @@
 -- The laws of steps: each keeps what holds of the kernel and of the words.
-use Rattle.std.specs.Prelude.{ℕ, ◌≡◌, Bool, true, false, List, [], ◌∷◌, Some, sum_by}
+use Rattle.std.specs.Prelude.{ℕ, ◌≡◌, ◌≢◌, Bool, true, false, List, [], ◌∷◌, Some, None, sum_by, slice_get}
+use Rattle.osc_word.specs.declared.calls.Call.{Call}
+use Rattle.osc_word.specs.declared.calls.Call.TheVariants as calls
+use Rattle.osc_word.specs.declared.calls.Request.{Request}
 use Rattle.osc_word.specs.declared.job_list.Job.{Job}
 use Rattle.osc_paging.specs.JobWords.{words_done}
 use Rattle.osc_space.specs.Space.{Outcome}
+use Rattle.osc_space.specs.Header.{Found}
 use Rattle.osc_parts.specs.PlanFits.{PlanFits}
-use Rattle.osc_calls.specs.Kernel.{KernelState, Process, Calling, UnderWay, Waiting, process_at}
+use Rattle.osc_calls.specs.declared.Begun.TheVariants as begun
+use Rattle.osc_calls.specs.Kernel.{KernelState, Process, Calling, UnderWay, Quiet, Waiting, process_at}
+use Rattle.osc_calls.specs.Requests.{calling_of, meant}
+use Rattle.osc_calls.specs.Begin.{begin}
+use Rattle.osc_calls.specs.Finish.{finish}
 use Rattle.osc_calls.specs.Refusals.{draft_of}
 use Rattle.osc_calls.specs.Planned.{outcome_planned}
-use Rattle.osc_calls.specs.Plan.{committed}
+use Rattle.osc_calls.specs.Plan.{committed, plan}
 use Rattle.osc_calls.specs.JobDone.{job_done, entries}
 use Rattle.osc_calls.specs.Labels.{out_count}
 use Rattle.osc_settled.specs.UnderWay.{is_end}
@@ -32,3 +40,35 @@ OutcomesKeep =
     (words : List ℕ) (k : KernelState) (c : Calling) (p : Process) (o : Outcome)
     → KernelFits words k → k.under_way ≡ Waiting c → process_at k c.pid ≡ Some p → FitsCaller words k p o
     → KernelFits words (committed c (outcome_planned c.pid p k o))
+
+-- ---- plans
+-- the calls whose plans are proved to keep what holds
+abbrev pub is_covered : Call → Bool
+is_covered calls.Fork = false
+is_covered (calls.Share count) = false
+is_covered _ = true
+
+-- the plan of a call that waits, refused or not
+abbrev pub PlansKeep : Type 0
+PlansKeep =
+    (words : List ℕ) (found : Found) (k : KernelState) (c : Calling)
+    → KernelFits words k → k.under_way ≡ Waiting c → is_covered (meant c.call) ≡ true
+    → KernelFits words (plan found k).kernel
+
+-- ---- begin
+-- a hart that takes the kernel, whatever it asks
+pub record BeginKeeps (words : List ℕ) (hart pc : ℕ) (regs : List ℕ) (request : Request) (k : KernelState) : Type 0 where
+  pub waits : (begin hart regs pc request k).begun ≢ begun.Planned → KernelFits words (begin hart regs pc request k).kernel
+  pub commits : (c : Calling) → calling_of hart regs pc request (slice_get k.records hart) ≡ Some c
+      → is_covered (meant c.call) ≡ true → KernelFits words (begin hart regs pc request k).kernel
+
+abbrev pub BeginsKeep : Type 0
+BeginsKeep =
+    (words : List ℕ) (hart pc : ℕ) (regs : List ℕ) (request : Request) (k : KernelState)
+    → KernelFits words k → k.under_way ≡ Quiet → BeginKeeps words hart pc regs request k
+
+-- ---- finish
+-- the kernel is given back once no job is pending
+abbrev pub FinishKeeps : Type 0
+FinishKeeps =
+    (words : List ℕ) (k : KernelState) → KernelFits words k → k.jobs ≡ [] → KernelFits words (finish k).kernel
