@@ -11,7 +11,7 @@ use Rattle.osc_space.specs.Space.{Draft, Outcome, Closing, Keeps, GivesBack}
 use Rattle.osc_space.specs.Share.{Regions}
 use Rattle.osc_space.specs.Finish.{finished}
 use Rattle.osc_parts.specs.Frames.{FramesFit, Trades}
-use Rattle.osc_parts.specs.Settled.{tables_of, PartsFit, Settled}
+use Rattle.osc_parts.specs.Settled.{tables_of, PartsFit}
 use Rattle.osc_parts.specs.Jobs.{PushesOwn}
 
 -- the block is one of those that are given back
