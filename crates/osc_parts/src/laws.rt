@@ -7,6 +7,7 @@ ghost use Rattle.osc_parts.specs.FreeLaws.{FreesFit};
 ghost use Rattle.osc_parts.specs.ReallocLaws.{ReallocsFit};
 ghost use Rattle.osc_parts.specs.PlainLaws.{PlainMallocsFit, PlainFreesFit, PlainReallocsFit};
 ghost use Rattle.osc_parts.specs.OthersFit.{PlansKeepOthers};
+ghost use Rattle.osc_parts.specs.Returning.{PlansReturn, JobsLeave, ReturnsSettle, ReturnsKeepOthers};
 ghost use Rattle.osc_parts.specs.ShareLaws.{SharesFit};
 ghost use Rattle.osc_parts.specs.EndLaws.{EndsFit};
 ghost use Rattle.osc_parts.specs.ForkFits.{ForksFit};
@@ -64,4 +65,13 @@ pub fn end_fits()
 /// After a fork that is not refused parent and child fit beside each other, and all others beside both.
 pub fn fork_fits()
     ensures { ForksFit }
+{}
+
+/// From its plan until its return a call is under way, whatever jobs are done and words change
+/// meanwhile; its return leaves a memory that is settled, and all others beside it.
+pub fn returns_settle()
+    ensures plans { PlansReturn }
+    ensures jobs { JobsLeave }
+    ensures settles { ReturnsSettle }
+    ensures others { ReturnsKeepOthers }
 {}
