@@ -32,7 +32,7 @@ use Rattle.osc_space.specs.declared.ObjectFact.{ObjectFact}
 use Rattle.osc_space.specs.LeafFlags.{read_write_at}
 use Rattle.osc_space.specs.Objects.{mark, next_page, is_live, has_page, is_live_page, fact, granted_at}
 use Rattle.osc_space.specs.Header.{block_of}
-use Rattle.osc_space.specs.Space.{Draft, first_reason, reason, unless}
+use Rattle.osc_space.specs.Space.{Draft, first_reason, reason, unless, Keeps as GivesNothing}
 use Rattle.osc_space.specs.BlockWords.{block_mappings, frame_at}
 use Rattle.osc_space.specs.Fork.{heap_frame_of}
 use Rattle.osc_space.specs.Share.{Regions}
@@ -44,7 +44,7 @@ use Rattle.osc_space.proofs.ObjectLawProofs.{pages_are_granted_once, mark-grant,
 use Rattle.osc_parts.specs.Frames.{among, FramesFit, Trades}
 use Rattle.osc_parts.specs.Settled.{tables_of, PartsFit, Settled}
 use Rattle.osc_parts.specs.Jobs.{Pushed, IsOwn, PushesOwn}
-use Rattle.osc_parts.specs.MallocLaws.{MallocsFit, MallocsTakeNeed}
+use Rattle.osc_parts.specs.MallocLaws.{MallocsFit, MallocsTakeNeed, MallocsGiveNothing}
 use Rattle.osc_parts.specs.PlanFits.{PlanFits}
 use Rattle.osc_parts.proofs.JobCounts.{pushed_both, pushed_weaker, IsOf, map_pages-links}
 use Rattle.osc_parts.proofs.Lists.{grown, get_append, get_end, get_within, any_at}
@@ -451,3 +451,11 @@ mallocs_take_need batch entries words regions n d s e =
     let made = malloc_in n (next_block d.space.heap (room_of n)) d in
     ap (λ r. free_count (unless r d made).draft.free + (block_need d (room_of n) + need d.space.tables (next_page d.space.objects) (shadow_pages (room_of n)))) e
     ∙ malloc_takes batch entries words regions n d (mallocs batch entries words regions n d s e)
+
+pub mallocs_give_nothing : MallocsGiveNothing
+unfolding malloc_plan
+mallocs_give_nothing n d = go (first_reason (malloc_reasons n d))
+  where
+    go : (r : Option Answer) → (unless r d (malloc_in n (next_block d.space.heap (room_of n)) d)).closing ≡ GivesNothing
+    go None = refl
+    go (Some a) = refl

@@ -1,16 +1,14 @@
 -- A call under way, until it returns.
-use Rattle.std.proofs.Common.{ℕ, ◌≡◌, Bool, Some, List, refl, ap, sym, ◌∙◌, subst}
+use Rattle.std.proofs.Common.{ℕ, ◌≡◌, ap, sym, ◌∙◌, subst}
 use Rattle.osc_word.specs.declared.settings.HeapKind.{HeapKind}
-use Rattle.osc_word.specs.declared.job_list.Job.{Job}
 use Rattle.osc_paging.specs.JobWords.{words_after}
 use Rattle.osc_paging.specs.Agree.{Agrees, AgreesAfter}
-use Rattle.osc_space.specs.Space.{Space, Draft, Outcome, Closing}
+use Rattle.osc_space.specs.Space.{Draft, Closing}
 use Rattle.osc_space.specs.Share.{Regions}
 use Rattle.osc_space.specs.Finish.{finished}
-use Rattle.osc_parts.specs.Frames.{FramesFit, Trades}
-use Rattle.osc_parts.specs.Settled.{tables_of, PartsFit, Settled}
-use Rattle.osc_parts.specs.PlanFits.{with_jobs, PlanFits}
-use Rattle.osc_parts.specs.OthersFit.{HoldsApart, StandsBeside}
+use Rattle.osc_parts.specs.Frames.{Trades}
+use Rattle.osc_parts.specs.Settled.{tables_of, PartsFit}
+use Rattle.osc_parts.specs.PlanFits.{with_jobs}
 use Rattle.osc_parts.specs.Returning.{Returning, PlansReturn, JobsLeave, ReturnsSettle, ReturnsKeepOthers}
 use Rattle.osc_parts.proofs.Settling.{Unheld, unheld_after, settled_frames}
 use Rattle.osc_parts.proofs.Giving.{agrees_fit}

@@ -1,5 +1,5 @@
 -- A call under way, as the kernel keeps it: jobs are done one by one and words change, until it returns.
-use Rattle.std.specs.Prelude.{ℕ, ◌≡◌, ◌<◌, Bool, true, Some, List, slice_get}
+use Rattle.std.specs.Prelude.{ℕ, ◌≡◌, ◌<◌, true, Some, List, slice_get}
 use Rattle.osc_word.specs.declared.settings.HeapKind.{HeapKind}
 use Rattle.osc_word.specs.declared.job_list.Job.{Job}
 use Rattle.osc_slot.specs.declared.Block.{Block}
