@@ -1,24 +1,20 @@
 -- Each page that holds a block belongs to a block, and its frame is found: over the objects, or as that
 -- of a mapped page under the plain heap.
-use Rattle.std.proofs.Common.{ℕ, zero, suc, ◌≡◌, ◌≢◌, ◌<◌, ◌≤◌, ◌+◌, ◌-◌, ◌*◌, ◌/◌, ◌==◌, ◌&&◌, ◌||◌, Bool, true, false, cond, Option, Some, None, List, [], ◌∷◌, length, map, filter, get_or, arith, refl, sym, subst, ap, ◌∙◌}
+use Rattle.std.proofs.Common.{ℕ, ◌≡◌, ◌<◌, ◌≤◌, ◌+◌, ◌-◌, ◌*◌, ◌/◌, ◌==◌, ◌||◌, Bool, true, false, cond, Some, List, [], ◌∷◌, map, get_or, arith, refl, sym, subst, ap, ◌∙◌}
 use Rattle.std.specs.Prelude.{is_some, find, option_map}
-use Rattle.std.specs.List.{list_any}
 use Rattle.std.proofs.lemmas.Bool.Decides.{nat_tests}
 use Rattle.std.proofs.Math.Nat.{mul-le-mul_right}
-use Rattle.osc_word.specs.declared.settings.HeapKind.{HeapKind}
-use Rattle.osc_word.specs.declared.settings.HeapKind.TheVariants.{Oscar, Plain}
 use Rattle.osc_word.specs.AddressMap.{is_canonical_page}
-use Rattle.osc_sv39.specs.declared.entries.Mapping.{Mapping}
 use Rattle.osc_class.specs.declared.Room.{Room}
 use Rattle.osc_class.specs.declared.Room.TheVariants.{Small, Pages}
-use Rattle.osc_class.specs.Rooms.{room_of, shadow_pages, IsRoom}
+use Rattle.osc_class.specs.Rooms.{shadow_pages, IsRoom}
 use Rattle.osc_slot.specs.declared.Block.{Block}
 use Rattle.osc_slot.specs.declared.HeapPage.{HeapPage}
 use Rattle.osc_slot.specs.Ordered.{AllAbove, IsAscending}
 use Rattle.osc_slot.specs.Areas.{IsPlaced, area_of, slots_in, first_page}
 use Rattle.osc_slot.specs.Slots.{is_block, is_held, is_on, is_covered}
-use Rattle.osc_slot.specs.Heap.{Heap, IsHeap, ArePlaced, frame_of, frame_of_found}
-use Rattle.osc_slot.proofs.HeldBlocks.{Found, found, any_weaker, same_block}
+use Rattle.osc_slot.specs.Heap.{IsHeap, frame_of, frame_of_found}
+use Rattle.osc_slot.proofs.HeldBlocks.{found, any_weaker, same_block}
 use Rattle.osc_slot.proofs.Bounds.{in_area, pages_within}
 use Rattle.osc_paging.specs.KeptTables.{mapping_at}
 use Rattle.osc_space.specs.declared.ObjectFact.{ObjectFact}
@@ -27,7 +23,7 @@ use Rattle.osc_space.specs.Objects.{fact}
 use Rattle.osc_space.specs.Header.{block_of}
 use Rattle.osc_space.specs.Space.{Space}
 use Rattle.osc_space.specs.Fork.{heap_frame_of}
-use Rattle.osc_space.specs.Agree.{IsKept, IsBlockOf, ObjectsAgree, PlainAgrees}
+use Rattle.osc_space.specs.Agree.{ObjectsAgree, PlainAgrees}
 use Rattle.osc_space.proofs.ForkLawProofs.{is_member}
 use Rattle.osc_fork.specs.Names.{AreBacked, AreFound, to_copy}
 

@@ -1,8 +1,7 @@
 -- The frames that are to be copied, one after another, each into the least free one.
-use Rattle.std.proofs.Common.{ℕ, zero, suc, ◌≡◌, ◌≢◌, ◌<◌, ◌≤◌, ◌+◌, ◌-◌, ◌==◌, Bool, true, false, cond, Option, Some, None, List, [], ◌∷◌, ◌++◌, length, set, get_or, map, filter, position, nat_eq, arith, refl, sym, subst, ap, ◌∙◌, append_assoc, length-append}
-use Rattle.std.specs.Prelude.{zip, find, slice_set, count_by}
+use Rattle.std.proofs.Common.{ℕ, zero, suc, ◌≡◌, ◌≢◌, ◌<◌, ◌≤◌, ◌+◌, ◌-◌, ◌==◌, Bool, true, false, cond, Some, List, [], ◌∷◌, ◌++◌, length, set, get_or, map, filter, position, arith, refl, sym, subst, ap, ◌∙◌, append_assoc, length-append}
+use Rattle.std.specs.Prelude.{zip, slice_set}
 use Rattle.std.specs.List.{range_with_len}
-use Rattle.std.specs.Option.{option_map_or}
 use Rattle.std.proofs.lemmas.Bool.Decides.{nat_tests}
 use Rattle.std.proofs.lemmas.List as lists
 use Rattle.std.proofs.lemmas.List.FromFn.{length-range_with_len, get_or-map-range_with_len}

@@ -1,8 +1,8 @@
 -- A fork: the copies are those of the plan, and what the child's parts ask for follows from the laws of
 -- copies and the agreement of the parts.
-use Rattle.std.proofs.Common.{ℕ, zero, suc, ◌≡◌, ◌≢◌, ◌<◌, ◌≤◌, ◌-◌, ◌/◌, ◌==◌, ◌||◌, ◌&&◌, Bool, true, false, cond, nat_lt, Option, Some, None, List, [], ◌∷◌, ◌++◌, length, map, filter, get_or, slice_get, arith, refl, sym, subst, ap, ◌∙◌}
-use Rattle.std.specs.Prelude.{All, is_some, slice_index, IsSome, count_by}
-use Rattle.std.specs.List.{list_any, range_with_len}
+use Rattle.std.proofs.Common.{ℕ, zero, suc, ◌≡◌, ◌≢◌, ◌<◌, ◌≤◌, ◌-◌, ◌/◌, ◌==◌, Bool, true, false, Some, None, List, [], ◌∷◌, ◌++◌, length, map, get_or, arith, refl, sym, subst, ap, ◌∙◌}
+use Rattle.std.specs.Prelude.{All, is_some, slice_index}
+use Rattle.std.specs.List.{range_with_len}
 use Rattle.std.proofs.lemmas.Bool.Decides.{nat_tests}
 use Rattle.std.proofs.lemmas.List.Folds.{list_any-append}
 use Rattle.osc_word.specs.declared.job_list.Job.{Job}
@@ -12,7 +12,6 @@ use Rattle.osc_sv39.specs.declared.entries.Mapping.{Mapping}
 use Rattle.osc_frames.specs.Free.{free_count}
 use Rattle.osc_slot.specs.declared.HeapPage.{HeapPage}
 use Rattle.osc_slot.specs.Heap.{Heap, IsHeap, HaveFrames, has_frame, rename, copy, AreNames}
-use Rattle.osc_paging.specs.declared.Piece.{Piece}
 use Rattle.osc_paging.specs.declared.Mapped.{Mapped}
 use Rattle.osc_paging.specs.declared.TableFrame.{TableFrame}
 use Rattle.osc_paging.specs.KeptTables.{KeptTables, mapping_at, piece_of, table_at}
@@ -24,14 +23,14 @@ use Rattle.osc_space.specs.declared.ObjectFact.{ObjectFact}
 use Rattle.osc_space.specs.Objects.{fact}
 use Rattle.osc_space.specs.Space.{Space, first_reason}
 use Rattle.osc_space.specs.Share.{Regions, shared_frames}
-use Rattle.osc_space.specs.Fork.{Forked, table_frame_of, heap_frame_of, image_frames, frames_owned, is_private, private_frames, free_numbers, set_free, copies, copy_job, name_in, fork_reasons, fork_plan}
+use Rattle.osc_space.specs.Fork.{table_frame_of, heap_frame_of, image_frames, frames_owned, is_private, set_free, copies, copy_job, name_in, fork_reasons, fork_plan}
 use Rattle.osc_space.specs.ForkLaws.{CopiesApart, CopiesEach}
 use Rattle.osc_space.specs.Agree.{AreApart, AllTaken, frames_of, SpaceAgrees}
 use Rattle.osc_space.proofs.RefusalLawProofs.{fork_refused}
 use Rattle.osc_space.proofs.ForkLawProofs.{is_member, forks_apart, forks_copy_each}
-use Rattle.osc_fork.specs.declared.plan.ForkPlan.TheVariants.{Copied, NoFrames}
+use Rattle.osc_fork.specs.declared.plan.ForkPlan.TheVariants.{Copied}
 use Rattle.osc_fork.specs.Names.{to_copy, AreMarked, mark_all, frames_between, MarksMore, AreBacked, AreFound, marked_copies, marked_frames}
-use Rattle.osc_fork.specs.Plan.{PartsAgree, space_of, Forking, forking, forked_to, after_jobs, IsForkPlan}
+use Rattle.osc_fork.specs.Plan.{PartsAgree, space_of, Forking, forking, IsForkPlan}
 use Rattle.osc_fork.proofs.Known.{Known, known, marked_are, there, tables_taken_all}
 use Rattle.osc_fork.proofs.Firsts.{not_below}
 use Rattle.osc_fork.proofs.MappedFrames.{get_small, index_of, taken_at, in_first, in_second, mapped_taken, table_private}

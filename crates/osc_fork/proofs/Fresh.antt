@@ -1,14 +1,13 @@
 -- A process without pages, on the first frame of a machine.
-use Rattle.std.proofs.Common.{ℕ, zero, suc, ◌≡◌, ◌+◌, ◌-◌, ◌==◌, ◌&&◌, Bool, true, false, cond, Some, None, List, [], ◌∷◌, length, slice_get, nat_lt, arith, refl, ap, sym, subst, ◌∙◌}
-use Rattle.std.specs.Prelude.{is_some, replicate, slice_set}
+use Rattle.std.proofs.Common.{ℕ, zero, suc, ◌≡◌, ◌+◌, ◌-◌, ◌==◌, Bool, true, false, List, [], length, nat_lt, arith, refl, sym}
+use Rattle.std.specs.Prelude.{is_some, slice_set}
 use Rattle.std.proofs.lemmas.Bool.Decides.{nat_tests}
 use Rattle.osc_word.specs.declared.settings.HeapKind.TheVariants.{Plain}
 use Rattle.osc_word.specs.AddressMap.{is_shared, first_shared_page}
-use Rattle.osc_sv39.specs.declared.entries.Mapping.{Mapping}
-use Rattle.osc_frames.specs.Free.{IsTaken, without_frame}
+use Rattle.osc_frames.specs.Free.{IsTaken}
 use Rattle.osc_slot.specs.Heap.{empty_heap}
 use Rattle.osc_slot.proofs.Backing.{get-set}
-use Rattle.osc_paging.specs.KeptTables.{KeptTables, closed, root_of}
+use Rattle.osc_paging.specs.KeptTables.{closed, root_of}
 use Rattle.osc_paging.specs.TableChanges.{opened}
 use Rattle.osc_mark.specs.Grants.{no_grants}
 use Rattle.osc_space.specs.Share.{holders, no_regions}

@@ -1,7 +1,7 @@
 -- The frames that were found are the private ones.
-use Rattle.std.proofs.Common.{ℕ, zero, suc, ◌≡◌, ◌≢◌, ◌<◌, ◌≤◌, ◌+◌, ◌-◌, ◌/◌, ◌==◌, ◌&&◌, ◌||◌, Bool, true, false, cond, inl, inr, Option, Some, None, List, [], ◌∷◌, ◌++◌, length, set, map, filter, get_or, slice_get, arith, refl, sym, subst, ap, ◌∙◌}
+use Rattle.std.proofs.Common.{ℕ, zero, suc, ◌≡◌, ◌<◌, ◌≤◌, ◌+◌, ◌-◌, ◌/◌, ◌==◌, ◌||◌, Bool, true, false, cond, inl, inr, Option, Some, None, List, [], ◌∷◌, ◌++◌, length, set, map, filter, get_or, arith, refl, sym, subst, ap, ◌∙◌}
 use Rattle.std.specs.Prelude.{All, is_some, option_map, count_by, ◌⊎◌}
-use Rattle.std.specs.List.{list_any, range_with_len}
+use Rattle.std.specs.List.{range_with_len}
 use Rattle.std.proofs.lemmas.Bool.Decides.{nat_tests}
 use Rattle.std.proofs.lemmas.List.{length-set}
 use Rattle.std.proofs.lemmas.List.Folds.{list_any-append}
@@ -26,7 +26,7 @@ use Rattle.osc_space.specs.Fork.{table_frame_of, heap_frame_of, frame_of_page, i
 use Rattle.osc_space.specs.Agree.{AllTaken, frames_of, HeapAgrees, SpaceAgrees}
 use Rattle.osc_space.proofs.ForkLawProofs.{is_member, block_member}
 use Rattle.osc_fork.specs.Names.{to_copy, AreMarked, mark_all, frames_between, MarksMore, AreBacked, AreFound, is_heap_frame, is_marked, marked_frames}
-use Rattle.osc_fork.proofs.Blocks.{MappedPage, found_by_objects, found_as_mapped}
+use Rattle.osc_fork.proofs.Blocks.{found_by_objects, found_as_mapped}
 use Rattle.osc_fork.proofs.Firsts.{not_below}
 use Rattle.osc_fork.proofs.MappedFrames.{get_small, taken_at, mapped_member}
 use Rattle.osc_fork.proofs.Marks.{set_here, set_other, stays}

@@ -1,6 +1,6 @@
 -- The frames of a process whose parts agree are taken.
-use Rattle.std.proofs.Common.{ℕ, zero, suc, ◌+◌, ◌-◌, ◌/◌, ◌≡◌, ◌≢◌, ◌<◌, ◌==◌, ◌&&◌, ◌||◌, inl, inr, Bool, true, false, cond, Option, Some, None, List, [], ◌∷◌, ◌++◌, length, map, filter, slice_get, slice_index, arith, refl, ap, sym, subst, ◌∙◌}
-use Rattle.std.specs.Prelude.{Contains, is_some, option_map, ◌⊎◌}
+use Rattle.std.proofs.Common.{ℕ, zero, suc, ◌+◌, ◌-◌, ◌/◌, ◌≡◌, ◌≢◌, ◌<◌, ◌==◌, ◌&&◌, ◌||◌, Bool, true, false, cond, Option, Some, None, List, [], ◌∷◌, ◌++◌, length, map, filter, slice_get, slice_index, arith, refl, ap, sym, subst, ◌∙◌}
+use Rattle.std.specs.Prelude.{is_some, option_map}
 use Rattle.std.specs.List.{list_any}
 use Rattle.std.proofs.lemmas.Bool.Decides.{nat_tests}
 use Rattle.std.proofs.lemmas.List.Folds.{list_any-append}
@@ -9,16 +9,15 @@ use Rattle.osc_word.specs.declared.settings.HeapKind.TheVariants.{Oscar, Plain}
 use Rattle.osc_word.specs.AddressMap.{is_image_or_stack, is_shared, is_shadow, is_canonical_page}
 use Rattle.osc_sv39.specs.declared.entries.Mapping.{Mapping}
 use Rattle.osc_slot.specs.Heap.{frame_of}
-use Rattle.osc_paging.specs.declared.Piece.{Piece}
 use Rattle.osc_paging.specs.declared.Mapped.{Mapped}
 use Rattle.osc_paging.specs.declared.TableFrame.{TableFrame}
-use Rattle.osc_paging.specs.KeptTables.{KeptTables, piece_of, mapping_at}
+use Rattle.osc_paging.specs.KeptTables.{piece_of, mapping_at}
 use Rattle.osc_space.specs.declared.ObjectFact.{ObjectFact}
 use Rattle.osc_space.specs.LeafFlags.{read_write_at}
 use Rattle.osc_space.specs.Objects.{has_page, is_live, is_live_page}
 use Rattle.osc_space.specs.Space.{Space}
 use Rattle.osc_space.specs.Share.{Regions, shared_frames}
-use Rattle.osc_space.specs.Fork.{Forked, table_frame_of, heap_frame_of, frame_of_page, image_frames, frames_owned, is_private, copy_by, copy_job, fork_plan}
+use Rattle.osc_space.specs.Fork.{table_frame_of, heap_frame_of, frame_of_page, image_frames, frames_owned, is_private}
 use Rattle.osc_space.specs.Agree.{AllTaken, frames_of, HeapAgrees, SpaceAgrees}
 use Rattle.osc_space.proofs.ForkLawProofs.{is_member, block_member}
 use Rattle.osc_paging.specs.CopyLaws.{IsTable}

@@ -1,13 +1,13 @@
 -- Frames that are to be copied, one more at a time.
-use Rattle.std.proofs.Common.{ℕ, zero, suc, ◌≡◌, ◌≢◌, ◌<◌, ◌≤◌, ◌+◌, ◌-◌, ◌==◌, Bool, true, false, cond, inl, inr, Option, Some, None, List, [], ◌∷◌, length, set, get_or, map, filter, arith, refl, sym, subst, ap, ◌∙◌}
-use Rattle.std.specs.Prelude.{All, is_some, find, ◌⊎◌}
+use Rattle.std.proofs.Common.{ℕ, suc, ◌≡◌, ◌<◌, ◌+◌, ◌==◌, Bool, true, false, cond, inl, inr, Some, List, [], ◌∷◌, length, set, get_or, arith, refl, sym, subst, ◌∙◌}
+use Rattle.std.specs.Prelude.{All, find, ◌⊎◌}
 use Rattle.std.proofs.lemmas.Bool.Decides.{nat_tests}
 use Rattle.std.proofs.lemmas.List.{length-set}
 use Rattle.osc_slot.specs.declared.HeapPage.{HeapPage}
-use Rattle.osc_slot.specs.Heap.{frame_of, frame_of_found, HaveFrames, has_frame}
+use Rattle.osc_slot.specs.Heap.{frame_of, frame_of_found, HaveFrames}
 use Rattle.osc_paging.proofs.WordLists.{get_or-set}
 use Rattle.osc_space.proofs.ForkLawProofs.{block_member}
-use Rattle.osc_fork.specs.Names.{to_copy, MarksMore, AreBacked, AreFound, is_heap_frame, mark_all}
+use Rattle.osc_fork.specs.Names.{to_copy, MarksMore, AreFound, is_heap_frame, mark_all}
 
 -- the frame of a page is one of the machine's
 pub frame_small : (frames : ℕ) (pages : List HeapPage) (page frame : ℕ) → HaveFrames frames pages → frame_of pages page ≡ Some frame → frame < frames

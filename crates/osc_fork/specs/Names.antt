@@ -1,6 +1,6 @@
 -- The work space of a fork: what stands in it for each frame while the frames to be copied are found.
 -- It is this project's own.
-use Rattle.std.specs.Prelude.{ℕ, zero, suc, ◌+◌, ◌-◌, ◌/◌, ◌==◌, ◌≡◌, ◌<◌, ◌≤◌, Bool, true, List, [], ◌∷◌, map, filter, zip, length, slice_index, slice_set, Some, is_some, ◌⊎◌, if◌then◌else◌}
+use Rattle.std.specs.Prelude.{ℕ, ◌+◌, ◌==◌, ◌≡◌, ◌<◌, ◌≤◌, Bool, true, List, [], ◌∷◌, map, filter, zip, length, slice_index, slice_set, Some, is_some, ◌⊎◌, if◌then◌else◌}
 use Rattle.std.specs.List.{range_with_len, list_any}
 use Rattle.osc_word.specs.AddressMap.{is_within}
 use Rattle.osc_paging.specs.declared.Mapped.{Mapped}

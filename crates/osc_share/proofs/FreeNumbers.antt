@@ -1,11 +1,10 @@
 -- The free frames, ascending: the least leads them, and the others follow once it is taken.
-use Rattle.std.proofs.Common.{ℕ, zero, suc, ◌≡◌, ◌<◌, ◌≤◌, ◌+◌, ◌-◌, Bool, true, false, cond, Option, Some, None, List, [], ◌∷◌, ◌++◌, length, take, map, set, position, slice_get, filter, arith, refl, ap, sym, subst, ◌∙◌, append_assoc, length-append}
+use Rattle.std.proofs.Common.{ℕ, zero, suc, ◌≡◌, ◌<◌, ◌≤◌, ◌+◌, Bool, true, false, cond, Option, Some, None, List, [], ◌∷◌, ◌++◌, length, take, position, slice_get, filter, arith, refl, ap, sym, subst, ◌∙◌}
 use Rattle.std.specs.Prelude.{slice_index_or, slice_set}
 use Rattle.std.specs.List.{range_with_len}
 use Rattle.std.proofs.lemmas.Bool.Decides.{nat_tests}
 use Rattle.osc_frames.specs.Free.{free_count}
 use Rattle.osc_slot.proofs.Backing.{free_count-take, get-set, least_free, length-set}
-use Rattle.osc_paging.proofs.Kept.{position_passes}
 use Rattle.osc_space.specs.Fork.{free_numbers, set_free}
 
 -- the places, from a number on, at which a list has true

@@ -1,19 +1,16 @@
 -- A process without pages, on the first frame of a machine.
-use Rattle.std.proofs.Common.{ℕ, zero, suc, ◌≡◌, ◌<◌, ◌≤◌, ◌+◌, ◌-◌, ◌*◌, ◌==◌, ◌&&◌, Bool, true, false, cond, Some, None, List, [], ◌∷◌, length, slice_get, get_or, take, nat_lt, arith, refl, ap, sym, subst, ◌∙◌}
-use Rattle.std.specs.Prelude.{is_some, replicate, slice_set}
+use Rattle.std.proofs.Common.{ℕ, zero, suc, ◌≡◌, ◌+◌, ◌-◌, ◌==◌, Bool, true, false, Some, List, [], length, take, nat_lt, arith, refl, ap, ◌∙◌}
+use Rattle.std.specs.Prelude.{is_some}
 use Rattle.std.proofs.lemmas.Bool.Decides.{nat_tests}
 use Rattle.osc_word.specs.declared.settings.HeapKind.TheVariants.{Plain}
 use Rattle.osc_word.specs.AddressMap.{is_shared, first_shared_page}
-use Rattle.osc_word.specs.JobList.{no_jobs}
-use Rattle.osc_sv39.specs.declared.entries.Mapping.{Mapping}
 use Rattle.osc_frames.specs.Free.{all_free, without_frame}
 use Rattle.osc_slot.specs.Heap.{empty_heap}
 use Rattle.osc_paging.specs.KeptTables.{KeptTables, closed, root_of}
-use Rattle.osc_paging.specs.TableChanges.{Changed, opened, map_pages}
+use Rattle.osc_paging.specs.TableChanges.{opened}
 use Rattle.osc_space.specs.Space.{Space}
 use Rattle.osc_space.specs.Fork.{free_numbers}
-use Rattle.osc_space.specs.Share.{Regions, Sharing, hold, holders, no_regions, share_plan}
-use Rattle.osc_space.specs.Agree.{SpaceAgrees}
+use Rattle.osc_space.specs.Share.{Sharing, holders, no_regions, share_plan}
 use Rattle.osc_share.specs.declared.sharing.SharePlan.{SharePlan}
 use Rattle.osc_share.specs.declared.sharing.SharePlan.TheVariants.{Given, Empty, NoFrames}
 use Rattle.osc_share.specs.Plan.{PartsAgree, IsSharePlan}

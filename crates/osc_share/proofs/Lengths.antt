@@ -1,12 +1,11 @@
 -- How many jobs a mapping pushes, and how many pages it adds.
-use Rattle.std.proofs.Common.{ℕ, zero, suc, ◌≡◌, ◌≤◌, ◌/◌, ◌+◌, ◌*◌, Option, Some, None, List, [], ◌∷◌, ◌++◌, cond, Bool, true, false, nat_lt, length, position, arith, refl, ap, ◌∙◌, length-append}
-use Rattle.osc_word.specs.declared.job_list.Job.{Job}
+use Rattle.std.proofs.Common.{ℕ, zero, suc, ◌≡◌, ◌≤◌, ◌/◌, ◌+◌, ◌*◌, Option, Some, None, List, [], ◌∷◌, cond, Bool, true, false, nat_lt, length, arith, refl, ap, ◌∙◌, length-append}
 use Rattle.osc_sv39.specs.declared.entries.Mapping.{Mapping}
 use Rattle.osc_sv39.specs.Walk.{piece}
 use Rattle.osc_paging.specs.declared.Mapped.{Mapped}
 use Rattle.osc_paging.specs.KeptTables.{frame_of}
-use Rattle.osc_paging.specs.TableChanges.{Changed, linked, link, link_all, leaf_put, put_leaf, map_page, with_page, put_job, zero_job}
-use Rattle.osc_paging.proofs.Needed.{link_all-pages, link_all-top}
+use Rattle.osc_paging.specs.TableChanges.{Changed, linked, link, link_all, leaf_put, map_page, with_page}
+use Rattle.osc_paging.proofs.Needed.{link_all-pages}
 
 -- the jobs are at most so many more, and the room for pages stays
 pub record Pushes (most : ℕ) (c d : Changed) : Type 0 where

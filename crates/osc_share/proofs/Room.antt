@@ -1,6 +1,6 @@
 -- Where the parts of a process agree, its tables have room for as many pages as frames are free.
-use Rattle.std.proofs.Common.{ℕ, zero, suc, ◌≡◌, ◌≢◌, ◌<◌, ◌≤◌, ◌+◌, ◌-◌, ◌*◌, ◌==◌, ◌&&◌, ◌||◌, Bool, true, false, not, cond, nat_lt, nat_le, Option, Some, None, List, [], ◌∷◌, ◌++◌, length, map, filter, slice_get, arith, refl, ap, sym, subst, ◌∙◌, length-append, append_assoc}
-use Rattle.std.specs.Prelude.{is_some, find, option_map, count_by, sum_by, slice_set, max}
+use Rattle.std.proofs.Common.{ℕ, suc, ◌≡◌, ◌<◌, ◌≤◌, ◌+◌, ◌-◌, ◌==◌, ◌&&◌, ◌||◌, Bool, true, false, cond, nat_lt, nat_le, Option, Some, None, List, [], ◌∷◌, ◌++◌, length, map, filter, slice_get, arith, refl, ap, sym, subst, ◌∙◌, length-append, append_assoc}
+use Rattle.std.specs.Prelude.{is_some, find, option_map, count_by, slice_set}
 use Rattle.std.specs.List.{list_any}
 use Rattle.std.proofs.lemmas.Bool.Decides.{nat_tests}
 use Rattle.std.proofs.lemmas.List.{length-map}
@@ -14,7 +14,7 @@ use Rattle.osc_slot.proofs.Backing.{free_count-le, free_count-give, get-set, len
 use Rattle.osc_paging.specs.declared.Piece.{Piece}
 use Rattle.osc_paging.specs.declared.Mapped.{Mapped}
 use Rattle.osc_paging.specs.declared.TableFrame.{TableFrame}
-use Rattle.osc_paging.specs.KeptTables.{KeptTables, mapping_at, piece_of}
+use Rattle.osc_paging.specs.KeptTables.{mapping_at, piece_of}
 use Rattle.osc_tables.specs.Inside.{AscendFrom}
 use Rattle.osc_tables.specs.Calls.{HasTaken}
 use Rattle.osc_space.specs.declared.ObjectFact.{ObjectFact}

@@ -1,19 +1,18 @@
 -- Mapping pages in a row, one after another.
-use Rattle.std.proofs.Common.{ℕ, zero, suc, ◌≡◌, ◌<◌, ◌≤◌, ◌+◌, ◌-◌, ◌*◌, ◌/◌, ◌^◌, ◌==◌, Bool, true, false, cond, Option, Some, None, List, length, arith, refl, ap, sym, subst, ◌∙◌}
-use Rattle.std.specs.Prelude.{IsSome, if◌then◌else◌}
+use Rattle.std.proofs.Common.{ℕ, zero, suc, ◌≡◌, ◌<◌, ◌≤◌, ◌+◌, ◌-◌, ◌*◌, ◌^◌, ◌==◌, Bool, false, Option, Some, None, List, length, arith, refl, ap, sym, subst, ◌∙◌}
+use Rattle.std.specs.Prelude.{IsSome}
 use Rattle.std.proofs.lemmas.Bool.Decides.{nat_tests}
 use Rattle.osc_word.specs.JobList.{JobList, spare}
 use Rattle.osc_sv39.specs.declared.entries.Mapping.{Mapping}
-use Rattle.osc_sv39.specs.Walk.{piece, is_canonical, number_of}
+use Rattle.osc_sv39.specs.Walk.{piece, number_of}
 use Rattle.osc_frames.specs.Free.{free_count}
 use Rattle.osc_paging.specs.declared.TableFrame.{TableFrame}
-use Rattle.osc_paging.specs.KeptTables.{KeptTables, levels_of, root_of, mapping_at, mapping_of, frame_of, missing, need_below, need}
+use Rattle.osc_paging.specs.KeptTables.{KeptTables, levels_of, root_of, mapping_at, mapping_of, missing, need_below, need}
 use Rattle.osc_paging.specs.TableChanges.{Changed, map_page}
 use Rattle.osc_paging.specs.TableLaws.{MapsPage}
 use Rattle.osc_paging.proofs.Needed.{piece_mono, need_one}
 use Rattle.osc_paging.proofs.TableLawProofs.{mapping_takes_need, need_splits}
-use Rattle.osc_tables.specs.Inside.{IsTop}
-use Rattle.osc_tables.specs.Calls.{HasTaken, IsOpen, changed}
+use Rattle.osc_tables.specs.Calls.{HasTaken, changed}
 use Rattle.osc_share.specs.InRow.{CanMap}
 use Rattle.osc_share.proofs.Low.{IsLow, low_page, reach}
 use Rattle.osc_share.proofs.Lengths.{Pushes, map_pushes, map_pages_more}

@@ -1,15 +1,15 @@
 -- A share: what is asked for follows from the agreement of the parts.
-use Rattle.std.proofs.Common.{ℕ, zero, suc, ◌≡◌, ◌<◌, ◌≤◌, ◌+◌, ◌-◌, ◌*◌, ◌==◌, Bool, true, false, Option, Some, None, List, [], ◌∷◌, ◌++◌, length, take, map, slice_get, get_or, nat_lt, arith, refl, ap, sym, subst, ◌∙◌, length-append}
-use Rattle.std.specs.Prelude.{All, is_some, IsSome, IsTrue}
+use Rattle.std.proofs.Common.{ℕ, zero, suc, ◌≡◌, ◌<◌, ◌≤◌, ◌+◌, Bool, true, false, Option, Some, None, List, [], ◌∷◌, ◌++◌, length, take, map, slice_get, get_or, nat_lt, arith, refl, ap, sym, subst, ◌∙◌, length-append}
+use Rattle.std.specs.Prelude.{is_some, IsSome}
 use Rattle.std.proofs.lemmas.Bool.Decides.{nat_tests}
 use Rattle.std.proofs.lemmas.List.{length-map}
-use Rattle.osc_word.specs.AddressMap.{is_shared, first_shared_page}
-use Rattle.osc_word.specs.JobList.{JobList, spare}
+use Rattle.osc_word.specs.AddressMap.{is_shared}
+use Rattle.osc_word.specs.JobList.{JobList}
 use Rattle.osc_sv39.specs.declared.entries.Mapping.{Mapping}
 use Rattle.osc_frames.specs.Free.{free_count}
 use Rattle.osc_paging.specs.KeptTables.{KeptTables, mapping_at, need, levels_of, root_of}
 use Rattle.osc_paging.specs.TableChanges.{zero_job}
-use Rattle.osc_space.specs.Agree.{HasSpare, SpaceAgrees}
+use Rattle.osc_space.specs.Agree.{HasSpare}
 use Rattle.osc_space.specs.Fork.{free_numbers, set_free}
 use Rattle.osc_space.specs.Share.{Regions, holders, next_shared_page, shared_pages}
 use Rattle.osc_sv39.specs.Walk.{number_of}

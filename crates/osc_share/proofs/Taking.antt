@@ -1,9 +1,8 @@
 -- One free frame more is taken and zeroed.
-use Rattle.std.proofs.Common.{ℕ, zero, suc, ◌≡◌, ◌<◌, ◌≤◌, ◌+◌, ◌-◌, Bool, true, false, Option, Some, None, List, [], ◌∷◌, ◌++◌, length, take, map, set, position, arith, refl, ap, sym, subst, ◌∙◌, append_assoc, length-append, add-one}
-use Rattle.std.specs.Prelude.{slice_set, slice_get}
+use Rattle.std.proofs.Common.{ℕ, suc, ◌≡◌, ◌<◌, ◌≤◌, ◌+◌, ◌-◌, Bool, false, Some, List, [], ◌∷◌, ◌++◌, length, take, map, set, position, arith, refl, ap, sym, subst, ◌∙◌, append_assoc, length-append}
+use Rattle.std.specs.Prelude.{slice_set}
 use Rattle.std.proofs.lemmas.List.{map-append, take_more_set}
 use Rattle.std.proofs.lemmas.List as lists
-use Rattle.osc_word.specs.declared.job_list.Job.{Job}
 use Rattle.osc_word.specs.JobList.{JobList, spare, with_job}
 use Rattle.osc_frames.specs.Free.{free_count}
 use Rattle.osc_slot.proofs.Backing.{free_count-take}

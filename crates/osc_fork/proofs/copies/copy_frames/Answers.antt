@@ -1,5 +1,5 @@
 -- One frame more is named.
-use Rattle.std.proofs.Common.{◌≡◌, ◌<◌, ◌∙◌, get_or, length, arith, sym}
+use Rattle.std.proofs.Common.{◌<◌, ◌∙◌, length, arith, sym}
 use Rattle.std.proofs.lemmas.List.{set-get_or}
 use Rattle.osc_fork.proofs.Copying.{copying_one, copying_other, all_copied}
 use Rattle.osc_fork.proofs.copies.copy_frames.Goals as goal

@@ -1,5 +1,5 @@
 -- The next page is the first one, where it is below the end.
-use Rattle.std.proofs.Common.{◌≡◌, ◌∙◌, arith, Some}
+use Rattle.std.proofs.Common.{◌≡◌, Some}
 use Rattle.osc_paging.specs.KeptTables.{mapping_of}
 use Rattle.osc_fork.proofs.Firsts.{first_page, no_page_left, none_before}
 use Rattle.osc_fork.proofs.marking.first_between.Goals as goal

@@ -1,5 +1,5 @@
 -- One page more is looked at.
-use Rattle.std.proofs.Common.{◌≡◌, ◌<◌, ◌+◌, ◌∙◌, Some, ap, arith, length}
+use Rattle.std.proofs.Common.{◌≡◌, ◌<◌, ◌+◌, Some, arith, length}
 use Rattle.osc_slot.specs.Heap.{frame_of}
 use Rattle.osc_fork.proofs.Marks.{frame_small, one_more, found_one}
 use Rattle.osc_fork.proofs.marking.mark_block.Goals as goal

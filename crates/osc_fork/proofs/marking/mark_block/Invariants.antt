@@ -1,5 +1,3 @@
-use Rattle.std.proofs.Common.{ℕ, ◌≡◌, ◌<◌, ◌+◌, Some, get_or}
-use Rattle.osc_slot.specs.Heap.{frame_of}
 use Rattle.osc_fork.specs.Names.{MarksMore, AreFound}
 use Rattle.osc_fork.proofs.marking.mark_block.Given as goal
 

@@ -1,4 +1,4 @@
-use Rattle.std.proofs.Common.{ℕ, ◌≡◌, ◌<◌, ◌≤◌, ◌-◌, All, length}
+use Rattle.std.proofs.Common.{ℕ, ◌≡◌, ◌<◌, ◌-◌, All, length}
 use Rattle.osc_fork.specs.Names.{frames_between, mark_all}
 use Rattle.osc_fork.proofs.marking.mark_pages.Given as goal
 

@@ -1,14 +1,8 @@
 -- The frames that were found are the private ones, and their copies are those of the plan.
-use Rattle.std.proofs.Common.{ℕ, ◌≡◌, ◌<◌, ◌≤◌, ◌∙◌, List, length, map, true, false, Bool, arith, refl, sym, subst, ap}
-use Rattle.osc_frames.specs.Free.{free_count}
-use Rattle.osc_paging.specs.TableChanges.{renamed}
-use Rattle.osc_slot.specs.Heap.{copy, AreNames}
+use Rattle.std.proofs.Common.{◌∙◌, arith, refl, sym, subst}
+use Rattle.osc_slot.specs.Heap.{AreNames}
 use Rattle.osc_tables.specs.Calls.{CanRename}
-use Rattle.osc_space.specs.Space.{Space, first_reason}
-use Rattle.osc_space.specs.Fork.{fork_reasons, is_private}
-use Rattle.osc_fork.specs.declared.plan.ForkPlan.TheVariants.{Copied, NoFrames}
-use Rattle.osc_fork.specs.Names.{AreFound, marked_frames, mark_all, frames_between}
-use Rattle.osc_fork.specs.Plan.{space_of, forking, IsForkPlan}
+use Rattle.osc_fork.specs.Plan.{space_of, forking}
 use Rattle.osc_fork.proofs.Known.{images_small, canons_small, count_is}
 use Rattle.osc_fork.proofs.Forks.{known_names, is_refused, is_none, is_forked, names_are, can_rename, are_names, stands_for_itself}
 use Rattle.osc_fork.proofs.plan.plan_fork.Goals as goal

@@ -1,6 +1,5 @@
 -- The parts of a fresh process agree.
-use Rattle.std.proofs.Common.{◌≡◌, ◌∙◌, ap, length}
-use Rattle.osc_space.specs.Share.{no_regions}
+use Rattle.std.proofs.Common.{◌∙◌, ap, length}
 use Rattle.osc_share.specs.Plan.{sharing}
 use Rattle.osc_share.proofs.Fresh.{fresh_agrees, share_lengths}
 use Rattle.osc_share.proofs.share_tests.plan_on.Goals as goal

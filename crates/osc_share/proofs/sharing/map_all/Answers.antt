@@ -1,9 +1,6 @@
 -- One page more is mapped.
-use Rattle.std.proofs.Common.{◌≡◌, ◌<◌, ◌+◌, ◌-◌, ◌∷◌, ◌∙◌, suc, length, drop, map, get_or, arith, sym, subst, ap}
+use Rattle.std.proofs.Common.{◌≡◌, ◌<◌, ◌+◌, ◌-◌, ◌∙◌, suc, length, drop, map, get_or, arith, sym, subst, ap}
 use Rattle.std.proofs.Math.Seq as seq
-use Rattle.osc_sv39.specs.declared.entries.Mapping.{Mapping}
-use Rattle.osc_sv39.specs.Walk.{number_of}
-use Rattle.osc_paging.specs.KeptTables.{levels_of}
 use Rattle.osc_paging.specs.TableChanges.{map_page, map_pages}
 use Rattle.osc_space.specs.LeafFlags.{read_write_at}
 use Rattle.osc_tables.specs.Calls.{changed}

@@ -1,7 +1,6 @@
 -- The reasons in the order of the tests, and what the steps ask for.
-use Rattle.std.proofs.Common.{◌≡◌, ◌<◌, ◌≤◌, ◌+◌, ◌-◌, ◌*◌, ◌∙◌, arith, sym, subst, refl, ap}
+use Rattle.std.proofs.Common.{◌≡◌, ◌*◌, ◌∙◌, arith, sym, subst, refl, ap}
 use Rattle.osc_frames.specs.Free.{free_count}
-use Rattle.osc_sv39.specs.Walk.{number_of}
 use Rattle.osc_paging.specs.KeptTables.{need, levels_of}
 use Rattle.osc_space.specs.Share.{next_shared_page}
 use Rattle.osc_space.proofs.RefusalLawProofs.{share_refused}

@@ -1,7 +1,7 @@
 -- What is asked once the frames are taken.
-use Rattle.std.proofs.Common.{◌≡◌, ◌∙◌, ◌++◌, false, take, length, map, ap, sym, subst, arith}
+use Rattle.std.proofs.Common.{◌∙◌, ◌++◌, false, length, map, ap, sym, subst}
 use Rattle.osc_paging.specs.TableChanges.{zero_job}
-use Rattle.osc_space.specs.Fork.{free_numbers, set_free}
+use Rattle.osc_space.specs.Fork.{set_free}
 use Rattle.osc_share.specs.InRow.{AreUnheld, CanMap}
 use Rattle.osc_share.proofs.Shares.{are_unheld, can_map_then}
 use Rattle.osc_share.proofs.sharing.share_into.Goals as goal

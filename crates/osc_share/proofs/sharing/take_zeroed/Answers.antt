@@ -1,8 +1,6 @@
 -- One frame more is taken.
-use Rattle.std.proofs.Common.{◌≡◌, ◌<◌, length, arith, ◌∙◌, Some, position, sym, subst, slice_set}
-use Rattle.osc_frames.specs.Free.{without_frame}
-use Rattle.osc_paging.specs.TableChanges.{zero_job}
-use Rattle.osc_share.proofs.Taking.{Taking, taking_one}
+use Rattle.std.proofs.Common.{◌≡◌, ◌<◌, length, arith, ◌∙◌, Some, position, sym}
+use Rattle.osc_share.proofs.Taking.{taking_one}
 use Rattle.osc_share.proofs.sharing.take_zeroed.Goals as goal
 
 pub loop-place-preserved : goal.loop-place-preserved
