@@ -103,6 +103,7 @@ impl UserHart {
 
     /// The answer to the action that the hart asked for. It gives a choice where an instruction
     /// commits with it.
+    #[inline(always)]
     pub fn told(&mut self, told: Told) -> Option<Choice>
         requires { Fits (asks.ask self.old.hart) (said told) }
         ensures { made self.new result ≡ definition.told self.old.hart (said told) }

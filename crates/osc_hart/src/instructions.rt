@@ -107,7 +107,7 @@ impl UserHart {
     }
 
     /// The word that holds the instruction was loaded.
-    #[inline(never)]
+    #[inline(always)]
     pub fn fetch(&mut self, access: &MemoryAccess, word: u64) -> Option<Choice>
         requires formed { IsFormed access.now }
         requires width { access.now.width ≡ 4 }

@@ -243,7 +243,7 @@ impl UserHart {
     }
 
     /// A word was loaded.
-    #[inline(always)]
+    #[inline(never)]
     fn take_word(&mut self, word: u64) -> Option<Choice>
         requires untouched { self.old.touch ≡ None }
         ensures { made self.new result ≡ definition.told_at self.old.hart.place self.old.hart (definition.Word word) }
@@ -296,6 +296,7 @@ impl UserHart {
     }
 
     /// The action was done.
+    #[inline(never)]
     fn finish(&mut self) -> Option<Choice>
         requires untouched { self.old.touch ≡ None }
         ensures { made self.new result ≡ definition.told_at self.old.hart.place self.old.hart definition.Done }
