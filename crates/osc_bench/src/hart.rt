@@ -4,8 +4,8 @@
 ghost use Rattle.std.specs.Prelude.{◌≡◌};
 ghost use Rattle.osc_guest.specs.Hands.{HandAgrees};
 
-use osc_guest::{Ask, hands_move, places_ask, stays_exactly};
 use osc_cache::has_32_slots;
+use osc_guest::{Ask, hands_move, places_ask, stays_exactly};
 use osc_hart::{HartBox, Told, UserHart};
 use osc_sv39::{PteBits, leaf, table};
 use osc_word::{Regs, Start, WordAt};

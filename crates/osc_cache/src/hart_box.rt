@@ -30,7 +30,9 @@ impl Model for HartBox {
     ghost Value = { BoxState };
 
     ghost view = { λ hart_box. record {
-        slots = hart_box.contents.value.cache; order = hart_box.contents.value.order } };
+      slots = hart_box.contents.value.cache;
+      order = hart_box.contents.value.order;
+    } };
 
     ghost invariant = { λ hart_box. length hart_box.contents.value.cache ≡ 32 };
 }

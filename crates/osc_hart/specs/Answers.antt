@@ -1,8 +1,10 @@
 -- Answers, and what they come to, as the definitions of a hart know them.
-use Rattle.osc_hart.specs.declared.answers.Outcome.{Outcome}
+use Rattle.std.specs.Prelude.{Option}
+use Rattle.osc_word.specs.declared.steps.Choice.{Choice}
 use Rattle.osc_hart.specs.declared.answers.Told.{Told}
 use Rattle.osc_hart.specs.declared.answers.Told.TheVariants as told
-use Rattle.osc_guest.specs.User.{UserHart, Answered}
+use Rattle.osc_guest.specs.User.{Answered}
+use Rattle.osc_hart.specs.Seen.{SeenHart}
 use Rattle.osc_guest.specs.Told as guest
 
 -- an answer as the definitions know it
@@ -15,6 +17,6 @@ said told.OldVersion = guest.OldVersion
 said (told.Resumed resume) = guest.Resumed resume
 said told.Done = guest.Done
 
--- a hart with what its answer came to
-abbrev pub made : UserHart → Outcome → Answered
-made h outcome = record { hart = h; choice = outcome.choice; touch = outcome.touch }
+-- what a hart made of an answer, with the choice that it told
+abbrev pub made : SeenHart → Option Choice → Answered
+made seen choice = record { hart = seen.hart; choice = choice; touch = seen.touch }

@@ -1,8 +1,7 @@
-//! The answers to what a hart asks for, and what an answer comes to.
+//! The answers to what a hart asks for.
 
 use osc_cache::HartBox;
-use osc_guest::Touch;
-use osc_word::{Choice, Resume};
+use osc_word::Resume;
 
 /// The answer to an action.
 #[derive(Drop)]
@@ -21,27 +20,4 @@ pub enum Told {
     Resumed(Resume),
     /// The store, the opening of a gate or the giving of the box was done.
     Done,
-}
-
-/// What an answer comes to, beside the hart: the choice where an instruction commits, and the access
-/// that was done or faulted.
-#[derive(Clone, Copy, Debug, PartialEq, Eq)]
-pub(crate) struct Outcome {
-    pub choice: Option<Choice>,
-    pub touch: Option<Touch>,
-}
-
-impl Outcome {
-    ghost use Rattle.std.specs.Prelude.{◌≡◌, None};
-
-    /// Nothing commits, and nothing is touched.
-    #[inline(always)]
-    pub fn nothing() -> Outcome
-        ensures { result ≡ record { choice = None; touch = None } }
-    {
-        Outcome {
-            choice: None,
-            touch: None,
-        }
-    }
 }

@@ -1,8 +1,7 @@
 //! What follows once the word of an instruction was loaded.
 
 use crate::accesses::{access_of, found_by, kind_of, misaligned};
-use crate::answers::Outcome;
-use crate::state::HartState;
+use crate::hart::UserHart;
 use crate::words::is_aligned;
 use osc_guest::{After, MemoryAccess, Place};
 use osc_int::{IntDone, int_step};
@@ -17,7 +16,7 @@ const BREAKPOINT: u8 = 3;
 /// The cause of a jump to an address that is not divisible by 4.
 pub const MISALIGNED_TARGET: u8 = 0;
 
-impl HartState {
+impl UserHart {
     ghost use Rattle.std.specs.Prelude.{◌≡◌};
     ghost use Rattle.osc_isa.specs.Traps as traps;
     ghost use Rattle.osc_rv.specs.Instr.{instr_of};
@@ -29,9 +28,10 @@ impl HartState {
 
     /// An access is looked up, unless its address is misaligned.
     #[inline(always)]
-    pub fn access(&mut self, access: &MemoryAccess) -> Outcome
-        requires { IsFormed access.now }
-        ensures { made self.new result ≡ instructions.unless_misaligned (accesses.alignment_trap access.now) access.now self.old }
+    pub fn access(&mut self, access: &MemoryAccess) -> Option<Choice>
+        requires formed { IsFormed access.now }
+        requires untouched { self.old.touch ≡ None }
+        ensures { made self.new result ≡ instructions.unless_misaligned (accesses.alignment_trap access.now) access.now self.old.hart }
     {
         if is_aligned(access.address, access.width) {
             self.look_up(access)
@@ -42,8 +42,9 @@ impl HartState {
 
     /// An instruction that touches no data commits.
     #[inline(always)]
-    fn step(&mut self, pc: u64) -> Outcome
-        ensures { made self.new result ≡ instructions.stepped self.old.regs pc self.old }
+    fn step(&mut self, pc: u64) -> Option<Choice>
+        requires untouched { self.old.touch ≡ None }
+        ensures { made self.new result ≡ instructions.stepped self.old.hart.regs pc self.old.hart }
     {
         self.pc = pc;
         self.place = Place::GiveBox { after: After::Run };
@@ -51,8 +52,9 @@ impl HartState {
     }
 
     /// A word that is no instruction faults.
-    fn fail(&mut self) -> Outcome
-        ensures { made self.new result ≡ looking.faulted (traps.illegal_at self.old.pc) self.old }
+    fn fail(&mut self) -> Option<Choice>
+        requires untouched { self.old.touch ≡ None }
+        ensures { made self.new result ≡ looking.faulted (traps.illegal_at self.old.hart.pc) self.old.hart }
     {
         let pc = self.pc;
         self.fault(ILLEGAL_INSTRUCTION, pc)
@@ -61,9 +63,10 @@ impl HartState {
     /// An instruction that does this.
     #[tactic(auto, unfolding(osc_guest::specs::Instructions::executed))]
     #[inline(always)]
-    fn execute(&mut self, instr: &Instr, done: IntDone) -> Outcome
-        requires { DoneFits done }
-        ensures { made self.new result ≡ instructions.executed instr.now done self.old }
+    fn execute(&mut self, instr: &Instr, done: IntDone) -> Option<Choice>
+        requires done { DoneFits done }
+        requires untouched { self.old.touch ≡ None }
+        ensures { made self.new result ≡ instructions.executed instr.now done self.old.hart }
     {
         match done {
             IntDone::Set { rd, value, pc } => {
@@ -74,7 +77,7 @@ impl HartState {
             IntDone::Call => {
                 let call = Call::of(&self.regs);
                 self.call(Request::Call(call));
-                Outcome::nothing()
+                None
             }
             IntDone::Break => {
                 let pc = self.pc;
@@ -90,8 +93,9 @@ impl HartState {
 
     /// The word of an instruction, which may be none.
     #[inline(always)]
-    fn decode(&mut self, word: u32) -> Outcome
-        ensures { made self.new result ≡ instructions.decoded (instr_of word) self.old }
+    fn decode(&mut self, word: u32) -> Option<Choice>
+        requires untouched { self.old.touch ≡ None }
+        ensures { made self.new result ≡ instructions.decoded (instr_of word) self.old.hart }
     {
         match decode(word) {
             Some(instr) => {
@@ -104,16 +108,15 @@ impl HartState {
 
     /// The word that holds the instruction was loaded.
     #[inline(always)]
-    pub fn fetch(&mut self, access: &MemoryAccess, word: u64) -> Outcome
+    pub fn fetch(&mut self, access: &MemoryAccess, word: u64) -> Option<Choice>
         requires formed { IsFormed access.now }
         requires width { access.now.width ≡ 4 }
-        ensures { made self.new result ≡ instructions.fetched access.now word self.old }
+        requires untouched { self.old.touch ≡ None }
+        ensures { made self.new result ≡ instructions.fetched access.now word self.old.hart }
     {
         let touch = self.touch(access, true);
-        let outcome = self.decode(found_by(access, word) as u32);
-        Outcome {
-            choice: outcome.choice,
-            touch: Some(touch),
-        }
+        let choice = self.decode(found_by(access, word) as u32);
+        self.touch = Some(touch);
+        choice
     }
 }

@@ -10,7 +10,6 @@ mod instructions;
 mod looking;
 mod pages;
 mod places;
-mod state;
 mod words;
 
 pub use answers::Told;

@@ -8,9 +8,8 @@ ghost use Rattle.osc_isa.specs.Integer as integer;
 ghost use Rattle.osc_guest.specs.Looking.{box_filled};
 
 use crate::accesses::{first_stage, kind_of, page_fault, page_of, reserved_version};
-use crate::answers::Outcome;
+use crate::hart::UserHart;
 use crate::pages::is_canonical;
-use crate::state::HartState;
 use osc_cache::{HartBox, Look};
 use osc_guest::{After, MemoryAccess, Place};
 use osc_sv39::{Access, Mapping, PteEntry, allows};
@@ -43,7 +42,7 @@ fn fill_in(held: &mut Option<HartBox>, page: u64, mapping: Mapping)
     }
 }
 
-impl HartState {
+impl UserHart {
     ghost use Rattle.std.specs.Prelude.{◌≡◌, ◌<◌};
     ghost use Rattle.osc_guest.specs.Looking as looking;
     ghost use Rattle.osc_hart.specs.Answers.{made};
@@ -51,22 +50,22 @@ impl HartState {
 
     /// An access without a translation faults.
     #[inline(never)]
-    fn lose(&mut self, access: &MemoryAccess) -> Outcome
-        ensures { made self.new result ≡ looking.lost access.now self.old }
+    fn lose(&mut self, access: &MemoryAccess) -> Option<Choice>
+        requires untouched { self.old.touch ≡ None }
+        ensures { made self.new result ≡ looking.lost access.now self.old.hart }
     {
         let touch = self.touch(access, false);
-        let outcome = self.fault(page_fault(kind_of(access.what)), access.address);
-        Outcome {
-            choice: outcome.choice,
-            touch: Some(touch),
-        }
+        let choice = self.fault(page_fault(kind_of(access.what)), access.address);
+        self.touch = Some(touch);
+        choice
     }
 
     /// A store-conditional that fails commits, and its register gets 1.
     #[inline(never)]
-    pub fn fail_conditional(&mut self, access: &MemoryAccess) -> Outcome
-        requires { access.now.rd < 32 }
-        ensures { made self.new result ≡ looking.sc_failed access.now self.old }
+    pub fn fail_conditional(&mut self, access: &MemoryAccess) -> Option<Choice>
+        requires register { access.now.rd < 32 }
+        requires untouched { self.old.touch ≡ None }
+        ensures { made self.new result ≡ looking.sc_failed access.now self.old.hart }
     {
         self.regs.set(access.rd, 1);
         self.pc = next(self.pc);
@@ -78,9 +77,10 @@ impl HartState {
     /// The frame of an access is known.
     #[tactic(auto, unfolding(osc_guest::specs::Looking::reached))]
     #[inline(always)]
-    fn reach(&mut self, access: &MemoryAccess, frame: u32) -> Outcome
-        requires { IsAccess access.now }
-        ensures { made self.new result ≡ looking.reached access.now frame self.old }
+    fn reach(&mut self, access: &MemoryAccess, frame: u32) -> Option<Choice>
+        requires access { IsAccess access.now }
+        requires untouched { self.old.touch ≡ None }
+        ensures { made self.new result ≡ looking.reached access.now frame self.old.hart }
     {
         let version = reserved_version(self.reservation, access, frame);
         match first_stage(access, version) {
@@ -90,7 +90,7 @@ impl HartState {
                     frame,
                     stage,
                 };
-                Outcome::nothing()
+                None
             }
             None => self.fail_conditional(access),
         }
@@ -99,9 +99,10 @@ impl HartState {
     /// Looks for the page of an access in the cache, and begins to walk where it is not there.
     #[tactic(auto, unfolding(osc_guest::specs::Looking::looked_up))]
     #[inline(always)]
-    pub fn look_up(&mut self, access: &MemoryAccess) -> Outcome
-        requires { IsAccess access.now }
-        ensures { made self.new result ≡ looking.looked_up access.now self.old }
+    pub fn look_up(&mut self, access: &MemoryAccess) -> Option<Choice>
+        requires access { IsAccess access.now }
+        requires untouched { self.old.touch ≡ None }
+        ensures { made self.new result ≡ looking.looked_up access.now self.old.hart }
     {
         let page = page_of(access);
         if !is_canonical(self.levels, page) {
@@ -119,15 +120,16 @@ impl HartState {
                     level: self.levels.saturating_sub(1),
                     table: self.root,
                 };
-                Outcome::nothing()
+                None
             }
         }
     }
 
     /// A leaf that lets the access pass is kept in the cache.
-    fn find_leaf(&mut self, access: &MemoryAccess, mapping: Mapping) -> Outcome
-        requires { IsAccess access.now }
-        ensures { made self.new result ≡ looking.leaf_found access.now mapping self.old }
+    fn find_leaf(&mut self, access: &MemoryAccess, mapping: Mapping) -> Option<Choice>
+        requires access { IsAccess access.now }
+        requires untouched { self.old.touch ≡ None }
+        ensures { made self.new result ≡ looking.leaf_found access.now mapping self.old.hart }
     {
         if mapping.frame < self.frames && allows(mapping.bits, kind_of(access.what)) {
             fill_in(&mut self.held, page_of(access), mapping);
@@ -138,9 +140,10 @@ impl HartState {
     }
 
     /// A link leads to the table of the next level.
-    fn find_link(&mut self, access: &MemoryAccess, level: u8, frame: u32) -> Outcome
-        requires { IsAccess access.now }
-        ensures { made self.new result ≡ looking.link_found access.now level frame self.old }
+    fn find_link(&mut self, access: &MemoryAccess, level: u8, frame: u32) -> Option<Choice>
+        requires access { IsAccess access.now }
+        requires untouched { self.old.touch ≡ None }
+        ensures { made self.new result ≡ looking.link_found access.now level frame self.old.hart }
     {
         if frame < self.frames {
             self.place = Place::Walk {
@@ -148,7 +151,7 @@ impl HartState {
                 level,
                 table: frame,
             };
-            Outcome::nothing()
+            None
         } else {
             self.lose(access)
         }
@@ -157,9 +160,10 @@ impl HartState {
     /// What the hart makes of an entry of this level.
     #[tactic(auto, unfolding(osc_guest::specs::Looking::walked))]
     #[inline(never)]
-    pub fn walk(&mut self, access: &MemoryAccess, level: u8, entry: PteEntry) -> Outcome
-        requires { IsAccess access.now }
-        ensures { made self.new result ≡ looking.walked access.now level entry self.old }
+    pub fn walk(&mut self, access: &MemoryAccess, level: u8, entry: PteEntry) -> Option<Choice>
+        requires access { IsAccess access.now }
+        requires untouched { self.old.touch ≡ None }
+        ensures { made self.new result ≡ looking.walked access.now level entry self.old.hart }
     {
         match entry {
             PteEntry::Leaf(frame, bits) if level == 0 => {

@@ -8,15 +8,15 @@ ghost use Rattle.osc_hart.specs.Sound.{IsAccess};
 use crate::accesses::{
     choice_of, fetch_at, number_kept, page_of, reservation_after, word_place, word_stored,
 };
-use crate::answers::{Outcome, Told};
+use crate::answers::Told;
+use crate::hart::UserHart;
 use crate::instructions::MISALIGNED_TARGET;
 use crate::looking::next;
 use crate::pages::entry_index;
-use crate::state::HartState;
 use osc_cache::HartBox;
 use osc_guest::{After, Ask, MemoryAccess, Place, Stage, What};
 use osc_sv39::read_pte;
-use osc_word::{ANSWER_REGISTER, Call, Order, Request, Resume, WordAt};
+use osc_word::{ANSWER_REGISTER, Call, Choice, Order, Request, Resume, WordAt};
 
 /// What an access asks for.
 fn access_ask(access: &MemoryAccess, frame: u32, stage: Stage) -> Ask
@@ -47,7 +47,7 @@ fn place_then(after: After) -> Place
     }
 }
 
-impl HartState {
+impl UserHart {
     ghost use Rattle.std.specs.Prelude.{◌≡◌, ◌<◌, true, Bool};
     ghost use Rattle.osc_paging.specs.Boxes.{BoxState};
     ghost use Rattle.osc_guest.specs.User as user;
@@ -60,8 +60,8 @@ impl HartState {
 
     /// The next action.
     #[tactic(auto, unfolding(osc_guest::specs::Asks::ask))]
-    pub fn ask(&self) -> Ask
-        ensures { result ≡ asks.ask self.now }
+    pub fn next_action(&self) -> Ask
+        ensures { result ≡ asks.ask self.now.hart }
     {
         match &self.place {
             Place::Run | Place::Idle => Ask::TakeBox,
@@ -91,8 +91,9 @@ impl HartState {
     /// The fetch of an instruction begins. A misaligned pc, which only the first of a thread can
     /// be, is found here.
     #[inline(always)]
-    fn begin_fetch(&mut self) -> Outcome
-        ensures { made self.new result ≡ orders.begun self.old }
+    fn begin_fetch(&mut self) -> Option<Choice>
+        requires untouched { self.old.touch ≡ None }
+        ensures { made self.new result ≡ orders.begun self.old.hart }
     {
         let pc = self.pc;
         if pc.is_multiple_of(4) {
@@ -104,20 +105,21 @@ impl HartState {
 
     /// The hart looks at the order in its box. A running hart begins its next instruction.
     #[inline(always)]
-    fn look_at_order(&mut self, running: bool, mut hart_box: HartBox) -> Outcome
-        ensures { made self.new result ≡ orders.ordered running hart_box.order hart_box self.old }
+    fn look_at_order(&mut self, running: bool, mut hart_box: HartBox) -> Option<Choice>
+        requires untouched { self.old.touch ≡ None }
+        ensures { made self.new result ≡ orders.ordered running hart_box.order hart_box self.old.hart }
     {
         match *hart_box.order() {
             Order::Stop => {
                 hart_box.set_order(Order::Empty);
                 self.held = Some(hart_box);
                 self.call(Request::Idle);
-                Outcome::nothing()
+                None
             }
             Order::Over => {
                 self.held = Some(hart_box);
                 self.place = Place::GiveBox { after: After::Rest };
-                Outcome::nothing()
+                None
             }
             Order::Start(start) if !running => {
                 hart_box.set_order(Order::Empty);
@@ -128,7 +130,7 @@ impl HartState {
             Order::Empty if !running => {
                 self.held = Some(hart_box);
                 self.place = Place::GiveBox { after: After::Idle };
-                Outcome::nothing()
+                None
             }
             _ => {
                 self.held = Some(hart_box);
@@ -138,33 +140,32 @@ impl HartState {
     }
 
     /// The hart took its box.
-    #[inline(always)]
-    fn take_box(&mut self, hart_box: HartBox) -> Outcome
-        ensures { made self.new result ≡ definition.told_at self.old.place self.old (definition.Box hart_box) }
+    #[inline(never)]
+    fn take_box(&mut self, hart_box: HartBox) -> Option<Choice>
+        requires untouched { self.old.touch ≡ None }
+        ensures { made self.new result ≡ definition.told_at self.old.hart.place self.old.hart (definition.Box hart_box) }
     {
         match self.place {
             Place::Run => self.look_at_order(true, hart_box),
             Place::Idle => self.look_at_order(false, hart_box),
-            _ => Outcome::nothing(),
+            _ => None,
         }
     }
 
     /// An access is done and commits, and the hart goes on at a place. It found this word.
-    #[inline(always)]
-    fn complete(&mut self, access: &MemoryAccess, word: u64, place: Place) -> Outcome
+    fn complete(&mut self, access: &MemoryAccess, word: u64, place: Place) -> Option<Choice>
         requires formed { IsFormed access.now }
         requires place { PlaceFits place }
-        ensures { made self.new result ≡ definition.completed access.now word place self.old }
+        requires untouched { self.old.touch ≡ None }
+        ensures { made self.new result ≡ definition.completed access.now word place self.old.hart }
     {
         let touch = self.touch(access, true);
         self.regs.set(access.rd, number_kept(access, word));
         self.pc = next(self.pc);
         self.place = place;
-        let outcome = self.commit(choice_of(access.what));
-        Outcome {
-            choice: outcome.choice,
-            touch: Some(touch),
-        }
+        let choice = self.commit(choice_of(access.what));
+        self.touch = Some(touch);
+        choice
     }
 
     /// An access is done under the gate of its frame, which had the version `found` and is left with
@@ -176,9 +177,10 @@ impl HartState {
         found: u64,
         left: u64,
         word: u64,
-    ) -> Outcome
-        requires { IsFormed access.now }
-        ensures { made self.new result ≡ definition.gate_done access.now frame found left word self.old }
+    ) -> Option<Choice>
+        requires formed { IsFormed access.now }
+        requires untouched { self.old.touch ≡ None }
+        ensures { made self.new result ≡ definition.gate_done access.now frame found left word self.old.hart }
     {
         self.reservation = reservation_after(access, frame, found, self.reservation);
         self.complete(
@@ -192,10 +194,17 @@ impl HartState {
     }
 
     /// The word was loaded under the gate: a load-reserved is done, all else stores.
-    fn load_gated(&mut self, access: &MemoryAccess, frame: u32, version: u64, word: u64) -> Outcome
+    fn load_gated(
+        &mut self,
+        access: &MemoryAccess,
+        frame: u32,
+        version: u64,
+        word: u64,
+    ) -> Option<Choice>
         requires access { IsAccess access.now }
         requires version { version < last_version }
-        ensures { made self.new result ≡ definition.gated access.now.what access.now frame version word self.old }
+        requires untouched { self.old.touch ≡ None }
+        ensures { made self.new result ≡ definition.gated access.now.what access.now frame version word self.old.hart }
     {
         if let What::Lr(_) = access.what {
             return self.complete_gated(access, frame, version, version, word);
@@ -208,28 +217,36 @@ impl HartState {
                 found: word,
             },
         };
-        Outcome::nothing()
+        None
     }
 
     /// A word was loaded within an access.
     #[inline(always)]
-    fn take_data(&mut self, access: &MemoryAccess, frame: u32, stage: Stage, word: u64) -> Outcome
+    fn take_data(
+        &mut self,
+        access: &MemoryAccess,
+        frame: u32,
+        stage: Stage,
+        word: u64,
+    ) -> Option<Choice>
         requires access { IsAccess access.now }
         requires stage { StageFits stage access.now.width }
-        ensures { made self.new result ≡ definition.access_told stage access.now frame self.old (definition.Word word) }
+        requires untouched { self.old.touch ≡ None }
+        ensures { made self.new result ≡ definition.access_told stage access.now frame self.old.hart (definition.Word word) }
     {
         match stage {
             Stage::Fetch => self.fetch(access, word),
             Stage::Load => self.complete(access, word, Place::GiveBox { after: After::Run }),
             Stage::GatedLoad { version } => self.load_gated(access, frame, version, word),
-            Stage::TakeGate { .. } | Stage::GatedStore { .. } => Outcome::nothing(),
+            Stage::TakeGate { .. } | Stage::GatedStore { .. } => None,
         }
     }
 
     /// A word was loaded.
-    #[inline(always)]
-    fn take_word(&mut self, word: u64) -> Outcome
-        ensures { made self.new result ≡ definition.told_at self.old.place self.old (definition.Word word) }
+    #[inline(never)]
+    fn take_word(&mut self, word: u64) -> Option<Choice>
+        requires untouched { self.old.touch ≡ None }
+        ensures { made self.new result ≡ definition.told_at self.old.hart.place self.old.hart (definition.Word word) }
     {
         match self.place {
             Place::Walk { access, level, .. } => self.walk(&access, level, read_pte(word)),
@@ -238,14 +255,15 @@ impl HartState {
                 frame,
                 stage,
             } => self.take_data(&access, frame, stage, word),
-            _ => Outcome::nothing(),
+            _ => None,
         }
     }
 
     /// The gate of a frame was taken.
-    fn take_gate(&mut self, version: u64) -> Outcome
-        requires { version < last_version }
-        ensures { made self.new result ≡ definition.told_at self.old.place self.old (definition.Gate version) }
+    fn take_gate(&mut self, version: u64) -> Option<Choice>
+        requires version { version < last_version }
+        requires untouched { self.old.touch ≡ None }
+        ensures { made self.new result ≡ definition.told_at self.old.hart.place self.old.hart (definition.Gate version) }
     {
         if let Place::Access {
             access,
@@ -259,12 +277,13 @@ impl HartState {
                 stage: Stage::GatedLoad { version },
             };
         }
-        Outcome::nothing()
+        None
     }
 
     /// The gate of a frame has another version than a store-conditional asked for.
-    fn miss_gate(&mut self) -> Outcome
-        ensures { made self.new result ≡ definition.told_at self.old.place self.old definition.OldVersion }
+    fn miss_gate(&mut self) -> Option<Choice>
+        requires untouched { self.old.touch ≡ None }
+        ensures { made self.new result ≡ definition.told_at self.old.hart.place self.old.hart definition.OldVersion }
     {
         match self.place {
             Place::Access {
@@ -272,14 +291,15 @@ impl HartState {
                 stage: Stage::TakeGate { only: Some(_) },
                 ..
             } => self.fail_conditional(&access),
-            _ => Outcome::nothing(),
+            _ => None,
         }
     }
 
     /// The action was done.
-    #[inline(always)]
-    fn finish(&mut self) -> Outcome
-        ensures { made self.new result ≡ definition.told_at self.old.place self.old definition.Done }
+    #[inline(never)]
+    fn finish(&mut self) -> Option<Choice>
+        requires untouched { self.old.touch ≡ None }
+        ensures { made self.new result ≡ definition.told_at self.old.hart.place self.old.hart definition.Done }
     {
         match self.place {
             Place::Access {
@@ -294,12 +314,12 @@ impl HartState {
             }
             _ => {}
         }
-        Outcome::nothing()
+        None
     }
 
     /// The call of a thread has this answer.
     fn return_from(&mut self, resume: Resume)
-        ensures { self.new ≡ definition.resumed resume self.old }
+        ensures { self.new ≡ record self.old { hart = definition.resumed resume self.old.hart } }
     {
         match resume {
             Resume::Return(value) => {
@@ -318,8 +338,9 @@ impl HartState {
     }
 
     /// The kernel was given back.
-    fn resume(&mut self, resume: Resume) -> Outcome
-        ensures { made self.new result ≡ definition.told_at self.old.place self.old (definition.Resumed resume) }
+    fn resume(&mut self, resume: Resume) -> Option<Choice>
+        requires untouched { self.old.touch ≡ None }
+        ensures { made self.new result ≡ definition.told_at self.old.hart.place self.old.hart (definition.Resumed resume) }
     {
         match self.place {
             Place::Call {
@@ -330,15 +351,16 @@ impl HartState {
             } => self.return_from(resume),
             _ => {}
         }
-        Outcome::nothing()
+        None
     }
 
     /// What the hart makes of the answer to its action.
     #[tactic(auto, unfolding(osc_guest::specs::Told::told, osc_guest::specs::Asks::ask))]
     #[inline(always)]
-    pub fn answer(&mut self, told: Told) -> Outcome
-        requires { Fits (asks.ask self.old) (said told) }
-        ensures { made self.new result ≡ definition.told self.old (said told) }
+    pub fn answer(&mut self, told: Told) -> Option<Choice>
+        requires fits { Fits (asks.ask self.old.hart) (said told) }
+        requires untouched { self.old.touch ≡ None }
+        ensures { made self.new result ≡ definition.told self.old.hart (said told) }
     {
         match told {
             Told::Box(hart_box) => self.take_box(hart_box),
@@ -347,7 +369,7 @@ impl HartState {
             Told::OldVersion => self.miss_gate(),
             Told::Resumed(resume) => self.resume(resume),
             Told::Done => self.finish(),
-            Told::Busy => Outcome::nothing(),
+            Told::Busy => None,
         }
     }
 }
