@@ -159,3 +159,7 @@ frames_given_vacant f (p ∷ ts) free a t =
     let here = vacant_give free p.frame f t.0 in
     let later = frames_given_vacant f ts (slice_set free p.frame true) a.1 (taken_but free p.frame (map table_frame_of ts) a.0 t.1) in
     omega (arith, here, later)
+
+pub given_length : (xs : List ℕ) (free : List Bool) → length (set_free true xs free) ≡ length free
+given_length [] free = refl
+given_length (x ∷ xs) free = given_length xs (slice_set free x true) ∙ length-set free x true

@@ -24,7 +24,7 @@ use Rattle.osc_parts.specs.Frames.{one_at, among, vacant, one_where, frames_held
 use Rattle.osc_parts.specs.Settled.{PartsFit}
 use Rattle.osc_parts.specs.OthersFit.{HoldsApart}
 use Rattle.osc_parts.specs.EndLaws.{AreHeld, dropped, EndFits, EndsFit}
-use Rattle.osc_parts.proofs.Counts.{among-append, member_counts, apart_once, once_apart, taken_at, all_taken, taken_but, vacant_give, give_back_vacant, frames_given_vacant}
+use Rattle.osc_parts.proofs.Counts.{among-append, member_counts, apart_once, once_apart, taken_at, all_taken, taken_but, vacant_give, give_back_vacant, frames_given_vacant, given_length}
 use Rattle.osc_parts.proofs.Trading.{held_is, held_once, held_taken, fits, there, vacant_there, quiet_taken}
 use Rattle.osc_parts.proofs.Blocks.{taken_small}
 use Rattle.osc_parts.proofs.Settling.{settled_frames}
@@ -38,10 +38,6 @@ given_vacant f (x ∷ xs) free a t =
     let here = vacant_give free x f t.0 in
     let later = given_vacant f xs (slice_set free x true) a.1 (taken_but free x xs a.0 t.1) in
     omega (arith, here, later)
-
-given_length : (xs : List ℕ) (free : List Bool) → length (set_free true xs free) ≡ length free
-given_length [] free = refl
-given_length (x ∷ xs) free = given_length xs (slice_set free x true) ∙ length-set free x true
 
 -- ---- regions
 -- what leaving these makes
@@ -143,7 +139,7 @@ leaves (x ∷ xs) r a t h w =
         (holders (let_regions_go xs (drop_frame x (holders r.regions x) r)).regions f) k v none
 
 -- ---- another's regions
-member_held : (test : ℕ → Bool) (ms : List Mapped) (q : ℕ) (m : Mapping) → test q ≡ true → mapping_at ms q ≡ Some m → 0 < among m.frame (map frame_of_page (filter (λ (x : Mapped). test x.number) ms))
+pub member_held : (test : ℕ → Bool) (ms : List Mapped) (q : ℕ) (m : Mapping) → test q ≡ true → mapping_at ms q ≡ Some m → 0 < among m.frame (map frame_of_page (filter (λ (x : Mapped). test x.number) ms))
 member_held test [] q m t e = absurd (let z : ⊥ = grind (arith, e) in z)
 member_held test (x ∷ ms) q m t e = go (x.number == q) refl (test x.number) refl e (member_held test ms q m t)
   where

@@ -55,6 +55,7 @@ use Rattle.osc_parts.specs.MallocLaws.{MallocsFit, MallocsTakeNeed}
 use Rattle.osc_parts.specs.PlanFits.{PlanFits}
 use Rattle.osc_parts.proofs.JobCounts.{pushed_both, pushed_weaker, IsOf, map_pages-links, cut-few, length-mapped}
 use Rattle.osc_parts.proofs.Lists.{grown, get_append, get_end, get_within, any_at}
+use Rattle.osc_parts.proofs.Waiting.{header_page}
 use Rattle.osc_parts.proofs.PlacingParts as placing
 use Rattle.osc_parts.proofs.Trading.{held_is, held_once, held_taken, fit_after, over, trades_both, back-trades, map_pages-trades}
 use Rattle.osc_parts.proofs.Shapes.{map_pages-adds, map_pages-agrees, map_pages-taken}
@@ -84,14 +85,6 @@ module _ (batch : ℕ) (entries : ℕ → ℕ → ℕ) (words : List ℕ) (regio
 some_of : (o : Option ℕ) → is_some (option_map read_write_at o) ≡ is_some o
 some_of None = refl
 some_of (Some f) = refl
-
--- a block's first byte after its header is on its first page
-header-page : (frames : ℕ) (room : Room) (slot : ℕ) → IsRoom room → (start_of frames room slot + 16) / 4096 ≡ start_of frames room slot / 4096
-header-page frames (Pages pages) slot r = omega arith
-header-page frames (Small class) slot r =
-    let a = bytes_within (Small class) slot r in
-    let b = room_bytes (Small class) r in
-    omega (arith, a, b)
 
 pub one_mapping : (pages : List HeapPage) (block : Block) (i : ℕ) → i < shadow_pages block.room → slice_get (block_mappings pages block) i ≡ Some (read_write_at (frame_at pages (block.start / 4096 + i)))
 one_mapping pages block i l =
@@ -341,7 +334,7 @@ module _ (batch : ℕ) (entries : ℕ → ℕ → ℕ) (words : List ℕ) (regio
       keeps.stays (o.canon / 4096 + k) there (covered_now (o.canon / 4096 + k) ∙ (grind (arith, nat_tests, there)))
 
   first_page_is : (the_block.start + 16) / 4096 ≡ the_block.start / 4096
-  first_page_is = subst (λ (b : Block). (b.start + 16) / 4096 ≡ b.start / 4096) (sym goes.block) (header-page d.space.heap.frames (room_of n) goes.slot room)
+  first_page_is = subst (λ (b : Block). (b.start + 16) / 4096 ≡ b.start / 4096) (sym goes.block) (header_page d.space.heap.frames (room_of n) goes.slot room)
 
   new_mapped : (k : ℕ) → k < shadow_pages (room_of n) → mapping_at after.space.tables.pages (first + k) ≡ option_map read_write_at (frame_of placed.heap.pages ((the_block.start + 16) / 4096 + k))
   new_mapped k l =

@@ -37,7 +37,7 @@ use Rattle.osc_parts.specs.Settled.{tables_of, PartsFit, Settled}
 use Rattle.osc_parts.specs.Jobs.{WritesWhere, AllWriteWhere, Pushed}
 use Rattle.osc_parts.specs.OthersFit.{HoldsApart, StandsBeside}
 use Rattle.osc_parts.specs.ShareLaws.{sharing_of, shared_draft, ShareFits, SharesFit}
-use Rattle.osc_parts.proofs.Counts.{among-append, apart_once, once_apart, all_taken, taken_but}
+use Rattle.osc_parts.proofs.Counts.{among-append, apart_once, once_apart, all_taken, taken_but, given_length}
 use Rattle.osc_parts.proofs.Trading.{held_is, held_once, held_taken, fits, there, vacant_there, quiet_apart, quiet_taken}
 use Rattle.osc_parts.proofs.Shapes.{Adds, AllRead, map_pages-adds, map_pages-agrees, map_pages-taken}
 use Rattle.osc_parts.proofs.JobCounts.{IsOf, pushed_both, pushed_weaker, map_pages-links, length-mapped}
@@ -54,10 +54,6 @@ given_count (x ∷ xs) free a t =
     let here = free_count-give free x t.0 in
     let later = given_count xs (slice_set free x true) a.1 (taken_but free x xs a.0 t.1) in
     omega (arith, here, later)
-
-given_length : (xs : List ℕ) (free : List Bool) → length (set_free true xs free) ≡ length free
-given_length [] free = refl
-given_length (x ∷ xs) free = given_length xs (slice_set free x true) ∙ length-set free x true
 
 few_taken : (xs : List ℕ) (free : List Bool) → AreApart xs → AllTaken free xs → length xs ≤ length free
 few_taken xs free a t =

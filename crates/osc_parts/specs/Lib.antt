@@ -2,6 +2,7 @@ pub mod Frames
 pub mod Settled
 pub mod Jobs
 pub mod PlanFits
+pub mod OpenLaws
 pub mod MallocLaws
 pub mod FreeLaws
 pub mod ReallocLaws
@@ -9,3 +10,4 @@ pub mod PlainLaws
 pub mod OthersFit
 pub mod ShareLaws
 pub mod EndLaws
+pub mod ForkFits

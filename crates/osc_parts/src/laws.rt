@@ -1,6 +1,7 @@
 //! The laws of the parts of a process. Each function does nothing: what it says is proved of the
 //! definitions.
 
+ghost use Rattle.osc_parts.specs.OpenLaws.{OpeningFits};
 ghost use Rattle.osc_parts.specs.MallocLaws.{MallocsFit, MallocsTakeNeed};
 ghost use Rattle.osc_parts.specs.FreeLaws.{FreesFit};
 ghost use Rattle.osc_parts.specs.ReallocLaws.{ReallocsFit};
@@ -8,6 +9,12 @@ ghost use Rattle.osc_parts.specs.PlainLaws.{PlainMallocsFit, PlainFreesFit, Plai
 ghost use Rattle.osc_parts.specs.OthersFit.{PlansKeepOthers};
 ghost use Rattle.osc_parts.specs.ShareLaws.{SharesFit};
 ghost use Rattle.osc_parts.specs.EndLaws.{EndsFit};
+ghost use Rattle.osc_parts.specs.ForkFits.{ForksFit};
+
+/// A memory that has its topmost table alone fits.
+pub fn opening_fits()
+    ensures { OpeningFits }
+{}
 
 /// A malloc leaves a memory whose parts fit and whose words agree with its tables once its jobs are
 /// done. It takes exactly the frames that its block and its tables need, all of them free before, and
@@ -52,4 +59,9 @@ pub fn share_fits()
 /// and leaves all of other processes' memories.
 pub fn end_fits()
     ensures { EndsFit }
+{}
+
+/// After a fork that is not refused parent and child fit beside each other, and all others beside both.
+pub fn fork_fits()
+    ensures { ForksFit }
 {}
