@@ -27,32 +27,8 @@ use Rattle.osc_settled.specs.KernelFits.{SizesFit}
 use Rattle.osc_settled.proofs.Lists.{get-put_same, get-put_other, length-put, sum-put, one_within, two_within, some_same}
 use Rattle.osc_settled.proofs.Memories.{Undisturbed, frames_stay, parts_stay, keeps_returns, returns_keeps, UsedOnce, undisturbed, closes_for}
 use Rattle.osc_settled.proofs.Finishing.{tables_stay}
+use Rattle.osc_settled.proofs.Apart.{holds_apart}
 use Rattle.osc_settled.proofs.Beginning.{AtRest}
-
--- ---- processes are apart
--- no frame that one process holds alone is another's, whatever a call under way has made of them
-pub holds_apart : (processes : List Process) (regions : Regions) (free : List Bool) (a b : ℕ) (p q : Process)
-    → UsedOnce processes regions free → a ≢ b → slice_get processes a ≡ Some p → slice_get processes b ≡ Some q → FramesFit p.space free → FramesFit q.space free
-    → HoldsApart p.space q.space
-holds_apart processes regions free a b p q u n e g k h f = go (among f (frames_held p.space)) refl
-  where
-    mapped : among f (frames_mapped q.space) ≡ among f (frames_held q.space) + among f (shared_frames q.space.tables)
-    mapped = among-append f (frames_held q.space) (shared_frames q.space.tables)
-
-    none : (x : ℕ) → vacant free f + held f processes + one_if x ≡ 1 → 0 < held f processes → x ≡ 0
-    none zero e l = refl
-    none (suc x) e l = absurd (omega (arith, e, l))
-
-    go : (x : ℕ) → among f (frames_held p.space) ≡ x → among f (frames_held p.space) + among f (frames_mapped q.space) ≤ 1
-    go zero is = let once = held_once q.space free f h in omega (arith, is, once, mapped)
-    go (suc x) is =
-        let within : f < length free = slice_get_within free f false (held_taken p.space free f k (omega (arith, is))) in
-        let once_used = u.uses f within in
-        let both : held_by f p + held_by f q ≤ held f processes = two_within (held_by f) processes a b p q n e g in
-        let other : shared_by f q ≤ shared f processes = one_within (shared_by f) processes b q g in
-        let sum = u.holders f in
-        let zero_holders = none (holders regions f) once_used (omega (arith, both, is)) in
-        omega (arith, is, once_used, both, other, sum, zero_holders, mapped)
 
 -- ---- what is left of the process
 pub bare_end : (regions : Regions) (s : Space) (free : List Bool) → IsBare (ended regions s free).space

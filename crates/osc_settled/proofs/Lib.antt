@@ -14,3 +14,5 @@ pub mod Beginning
 pub mod Finishing
 pub mod Gone
 pub mod Returning
+pub mod Sharing
+pub mod Apart

@@ -19,6 +19,7 @@ use Rattle.osc_settled.proofs.Outcomes.{Asks, asks, caller_lives}
 use Rattle.osc_settled.proofs.Answering.{answered_owed, join_no_end, wait_no_end, malloc_owed, free_owed, realloc_owed}
 use Rattle.osc_settled.proofs.Ending.{threads_stay, ends_owed, done_owed}
 use Rattle.osc_settled.proofs.Spawning.{spawn_owed}
+use Rattle.osc_settled.proofs.Sharing.{share_owed}
 use Rattle.osc_settled.proofs.Writing.{write_owed}
 
 no_more : {P : Type 0} → false ≡ true → P
@@ -37,7 +38,7 @@ row words found c p k (calls.Spawn pc sp arg) a e v = spawn_owed words k c p pc 
 row words found c p k (calls.Join number) a e v =
     answered_owed words k c (unwrap_or (join_answer (join_look k.threads c.pid number)) answers.Unknown) a (join_no_end (join_look k.threads c.pid number))
 row words found c p k (calls.Done value) a e v = done_owed words k c value (is_last k.records c.pid) a
-row words found c p k (calls.Share count) a e v = no_more v
+row words found c p k (calls.Share count) a e v = share_owed words k c p count a e
 row words found c p k (calls.Wait number) a e v =
     answered_owed words k c (unwrap_or (wait_answer (wait_look k c.pid number)) answers.Unknown) a (wait_no_end (wait_look k c.pid number))
 row words found c p k (calls.Unknown number) a e v = answered_owed words k c answers.Unknown a refl

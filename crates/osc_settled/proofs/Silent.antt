@@ -44,7 +44,7 @@ outs-none job jobs e f = let a = sum_by-cons out_count job jobs in omega (arith,
 pub outs-push : (xs ys : List Job) → outs ys ≡ 0 → outs (xs ++ ys) ≡ outs xs
 outs-push xs ys e = let a = sum_by-append out_count xs ys in omega (arith, a, e)
 
-outs-map : {X : Type 0} (f : X → Job) (xs : List X) → ((x : X) → out_count (f x) ≡ 0) → outs (map f xs) ≡ 0
+pub outs-map : {X : Type 0} (f : X → Job) (xs : List X) → ((x : X) → out_count (f x) ≡ 0) → outs (map f xs) ≡ 0
 outs-map f [] h = refl
 outs-map f (x ∷ xs) h = outs-none (f x) (map f xs) (h x) (outs-map f xs h)
 

@@ -45,7 +45,6 @@ OutcomesKeep =
 -- the calls whose plans are proved to keep what holds
 abbrev pub is_covered : Call → Bool
 is_covered calls.Fork = false
-is_covered (calls.Share count) = false
 is_covered _ = true
 
 -- the plan of a call that waits, refused or not
