@@ -1,10 +1,9 @@
 -- The jobs of a buffer, one word after another.
-use Rattle.std.proofs.Common.{ℕ, zero, suc, ◌≡◌, ◌+◌, ◌-◌, ◌*◌, ◌/◌, ◌%◌, ◌<◌, ◌≤◌, ◌⊎◌, inl, inr, Bool, true, false, List, [], ◌∷◌, ◌++◌, refl, ap, ◌∙◌, sym, subst, arith}
-use Rattle.std.specs.Prelude.{nat_lt, unwrap_or, min, max, if◌then◌else◌}
+use Rattle.std.proofs.Common.{ℕ, zero, suc, ◌≡◌, ◌+◌, ◌-◌, ◌*◌, ◌/◌, ◌%◌, ◌<◌, ◌≤◌, ◌⊎◌, inl, inr, true, [], ◌∷◌, ◌++◌, refl, ap, ◌∙◌, arith}
+use Rattle.std.specs.Prelude.{nat_lt, unwrap_or, min, max}
 use Rattle.std.specs.List.{range_with_len, flat_map}
 use Rattle.std.proofs.lemmas.Bool.{cases_lt}
 use Rattle.std.proofs.lemmas.Bool.Decides.{nat_tests}
-use Rattle.std.proofs.lemmas.List.{append-nil, append_assoc}
 use Rattle.osc_word.specs.declared.job_list.Job.{Job}
 use Rattle.osc_word.specs.declared.job_list.Job.TheVariants.{ToOut}
 use Rattle.osc_paging.specs.KeptTables.{KeptTables}
@@ -72,6 +71,7 @@ next_word t at left l = pick (cases_lt (8 - at % 8) left)
   where
     step : ℕ
     step = min left (8 - at % 8)
+
     pick : (8 - at % 8 < left) ⊎ (left ≤ 8 - at % 8) → out_jobs t at left ≡ piece_job t at (min left (8 - at % 8)) ∷ out_jobs t (at + min left (8 - at % 8)) (left - min left (8 - at % 8))
     pick (inl more) =
         let s : min left (8 - at % 8) ≡ 8 - at % 8 = omega arith in

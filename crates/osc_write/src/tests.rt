@@ -63,8 +63,10 @@ fn three_pages(rt: &impl Abort, alloc: Global) -> Result<Tables, Fail> {
     let mut tables = Tables::new(alloc, 64, 128, 3)?;
     let mut jobs = Jobs::new(alloc, 64)?;
     open_on(rt, &mut tables, &mut frames);
-    let [a, b, c] = [(40, READ_WRITE), (50, READ_WRITE), (60, EXECUTE)]
-        .map(|(frame, bits)| Mapping { frame, bits });
+    let [a, b, c] = [(40, READ_WRITE), (50, READ_WRITE), (60, EXECUTE)].map(|(
+        frame,
+        bits,
+    )| Mapping { frame, bits });
     map_on(rt, &mut tables, 0x10, a, &mut frames, &mut jobs);
     map_on(rt, &mut tables, 0x11, b, &mut frames, &mut jobs);
     map_on(rt, &mut tables, 0x12, c, &mut frames, &mut jobs);

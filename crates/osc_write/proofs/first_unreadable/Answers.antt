@@ -1,5 +1,5 @@
 -- One page more is looked at.
-use Rattle.std.proofs.Common.{◌≡◌, ◌∙◌, sym, arith}
+use Rattle.std.proofs.Common.{◌∙◌, sym, arith}
 use Rattle.osc_write.proofs.Reading.{page_read, page_not_read}
 use Rattle.osc_write.proofs.first_unreadable.Goals as goal
 

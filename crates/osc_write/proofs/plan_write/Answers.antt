@@ -1,5 +1,5 @@
 -- A buffer that can be read ends before the last page of all addresses.
-use Rattle.std.proofs.Common.{◌≡◌, ◌≤◌, ◌∙◌, sym, arith}
+use Rattle.std.proofs.Common.{◌≤◌, ◌∙◌, sym, arith}
 use Rattle.osc_write.proofs.Reading.{ends_below}
 use Rattle.osc_write.proofs.Plans.{few_jobs}
 use Rattle.osc_write.proofs.plan_write.Goals as goal

@@ -1,5 +1,5 @@
 -- One word more is pushed. All bytes lie in the page of the first one.
-use Rattle.std.proofs.Common.{◌≡◌, ◌∙◌, ◌+◌, ◌/◌, ◌%◌, ◌++◌, ◌∷◌, [], arith, ap, sym, length}
+use Rattle.std.proofs.Common.{◌≡◌, ◌∙◌, ◌/◌, ◌%◌, ◌++◌, ◌∷◌, [], arith, ap}
 use Rattle.std.specs.Prelude.{unwrap_or}
 use Rattle.osc_word.specs.declared.job_list.Job.TheVariants.{ToOut}
 use Rattle.osc_sv39.specs.declared.entries.Access.TheVariants.{Load}
@@ -11,8 +11,13 @@ use Rattle.osc_write.proofs.push_page.Goals as goal
 
 pub push-requires : goal.push-requires
 push-requires c =
-    omega (arith, word_fits c.args.tables.now c.loop-left.jobs.pushed c.args.jobs.now.pushed (out_jobs c.args.tables.now c.args.from c.args.count) c.loop-left.at c.loop-left.left
-    (omega (arith, c.loop-left-test.true)) c.loop-left.invariant.rest, c.loop-left.invariant.room, c.requires.room)
+    omega (
+      arith,
+      word_fits c.args.tables.now c.loop-left.jobs.pushed c.args.jobs.now.pushed (out_jobs c.args.tables.now c.args.from c.args.count) c.loop-left.at c.loop-left.left
+          (omega (arith, c.loop-left-test.true)) c.loop-left.invariant.rest,
+      c.loop-left.invariant.room,
+      c.requires.room,
+    )
 
 pub loop-left-preserved : goal.loop-left-preserved
 loop-left-preserved c =

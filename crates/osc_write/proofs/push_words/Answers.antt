@@ -1,13 +1,18 @@
 -- One page more is pushed.
-use Rattle.std.proofs.Common.{◌≡◌, ◌∙◌, ◌++◌, arith}
+use Rattle.std.proofs.Common.{◌∙◌, ◌++◌, arith}
 use Rattle.osc_calls.specs.WritePlan.{out_jobs}
 use Rattle.osc_write.proofs.Plans.{page_pushed, page_fits, all_pushed}
 use Rattle.osc_write.proofs.push_words.Goals as goal
 
 pub push_page-requires-clause-room : goal.push_page-requires-clause-room
 push_page-requires-clause-room c =
-    omega (arith, page_fits c.args.tables.now c.loop-left.jobs.pushed c.args.jobs.now.pushed (out_jobs c.args.tables.now c.args.buf c.args.count) c.loop-left.at c.loop-left.left c.min-bytes.result
-    c.min-bytes.ensures c.loop-left.invariant.rest, c.loop-left.invariant.room, c.requires.room)
+    omega (
+      arith,
+      page_fits c.args.tables.now c.loop-left.jobs.pushed c.args.jobs.now.pushed (out_jobs c.args.tables.now c.args.buf c.args.count) c.loop-left.at c.loop-left.left c.min-bytes.result
+          c.min-bytes.ensures c.loop-left.invariant.rest,
+      c.loop-left.invariant.room,
+      c.requires.room,
+    )
 
 pub loop-left-preserved : goal.loop-left-preserved
 loop-left-preserved c = record {
