@@ -17,7 +17,7 @@ use Rattle.osc_settled.specs.Memory.{memory_of, MemoryFits}
 use Rattle.osc_settled.specs.Records.{ending, RecordsFit}
 use Rattle.osc_settled.specs.UnderWay.{closing_of, UnderWayFits}
 use Rattle.osc_settled.specs.KernelFits.{SizesFit, KernelFits}
-use Rattle.osc_settled.specs.KeepLaws.{is_covered, BeginKeeps, BeginsKeep}
+use Rattle.osc_settled.specs.KeepLaws.{BeginsKeep}
 use Rattle.osc_settled.proofs.Plans.{plans_keep}
 
 -- ---- a kernel that nobody has
@@ -105,41 +105,25 @@ asks_as hart pc regs (request.Call call) None c e = absurd (let z : ⊥ = cc in 
 asks_as hart pc regs request.Idle kept c e = absurd (let z : ⊥ = cc in z)
 
 -- ---- the begin
-begun_waits : (words : List ℕ) (k : KernelState) (c : Calling) (b : Begun) → AtRest words k → (goes_ahead b ≡ true → KernelFits words (taken (Waiting c) k))
-    → (begin_as b c k).begun ≢ begun.Planned → KernelFits words (begin_as b c k).kernel
-begun_waits words k c begun.Again r w n = rests_retrying words k r
-begun_waits words k c begun.JournalFull r w n = rests_retrying words k r
-begun_waits words k c begun.Gone r w n = rests_leaving words k c.hart r
-begun_waits words k c begun.Boxes r w n = w refl
-begun_waits words k c (begun.Header first second) r w n = w refl
-begun_waits words k c begun.Planned r w n = absurd (n refl)
-
-begun_commits : (words : List ℕ) (k : KernelState) (c : Calling) (b : Begun) → AtRest words k → (goes_ahead b ≡ true → KernelFits words (taken (Waiting c) k))
-    → is_covered (meant c.call) ≡ true → KernelFits words (begin_as b c k).kernel
-begun_commits words k c begun.Again r w v = rests_retrying words k r
-begun_commits words k c begun.JournalFull r w v = rests_retrying words k r
-begun_commits words k c begun.Gone r w v = rests_leaving words k c.hart r
-begun_commits words k c begun.Boxes r w v = w refl
-begun_commits words k c (begun.Header first second) r w v = w refl
-begun_commits words k c begun.Planned r w v = plans_keep words no_words (taken (Waiting c) k) c (w refl) refl v
+begun_keeps : (words : List ℕ) (k : KernelState) (c : Calling) (b : Begun) → AtRest words k → (goes_ahead b ≡ true → KernelFits words (taken (Waiting c) k))
+    → KernelFits words (begin_as b c k).kernel
+begun_keeps words k c begun.Again r w = rests_retrying words k r
+begun_keeps words k c begun.JournalFull r w = rests_retrying words k r
+begun_keeps words k c begun.Gone r w = rests_leaving words k c.hart r
+begun_keeps words k c begun.Boxes r w = w refl
+begun_keeps words k c (begun.Header first second) r w = w refl
+begun_keeps words k c begun.Planned r w = plans_keep words no_words (taken (Waiting c) k) c (w refl) refl
 
 pub begins_keep : BeginsKeep
 unfolding begin
-begins_keep words hart pc regs asked k f u = record {
-  waits = λ n. waits (calling_of hart regs pc asked (slice_get k.records hart)) refl n;
-  commits = λ c e v. subst (λ o. KernelFits words (begin_call hart o k).kernel) (sym e)
-      (begun_commits words k c (begun_in (process_at k c.pid) c k) r (ahead c e) v);
-}
+begins_keep words hart pc regs asked k f u = keeps (calling_of hart regs pc asked (slice_get k.records hart)) refl
   where
     r : AtRest words k
     r = at_rest words k f u
 
-    ahead : (c : Calling) → calling_of hart regs pc asked (slice_get k.records hart) ≡ Some c → goes_ahead (begun_in (process_at k c.pid) c k) ≡ true
-        → KernelFits words (taken (Waiting c) k)
-    ahead c e g =
-        let who = asks_as hart pc regs asked (slice_get k.records hart) c e in
-        rests_waiting words k c r (has_room (process_at k c.pid) c k g) (subst (λ h. slice_get k.records h ≡ Some (Runs c.pid c.thread)) who.1 who.0)
-
-    waits : (o : Option Calling) → calling_of hart regs pc asked (slice_get k.records hart) ≡ o → (begin_call hart o k).begun ≢ begun.Planned → KernelFits words (begin_call hart o k).kernel
-    waits None e n = rests_leaving words k hart r
-    waits (Some c) e n = begun_waits words k c (begun_in (process_at k c.pid) c k) r (ahead c e) n
+    keeps : (o : Option Calling) → calling_of hart regs pc asked (slice_get k.records hart) ≡ o → KernelFits words (begin_call hart o k).kernel
+    keeps None e = rests_leaving words k hart r
+    keeps (Some c) e =
+        begun_keeps words k c (begun_in (process_at k c.pid) c k) r
+        (λ g. (let who = asks_as hart pc regs asked (slice_get k.records hart) c e in
+            rests_waiting words k c r (has_room (process_at k c.pid) c k g) (subst (λ h. slice_get k.records h ≡ Some (Runs c.pid c.thread)) who.1 who.0)))

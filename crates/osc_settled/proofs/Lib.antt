@@ -16,3 +16,4 @@ pub mod Gone
 pub mod Returning
 pub mod Sharing
 pub mod Apart
+pub mod Forking

@@ -42,29 +42,18 @@ OutcomesKeep =
     → KernelFits words (committed c (outcome_planned c.pid p k o))
 
 -- ---- plans
--- the calls whose plans are proved to keep what holds
-abbrev pub is_covered : Call → Bool
-is_covered calls.Fork = false
-is_covered _ = true
-
 -- the plan of a call that waits, refused or not
 abbrev pub PlansKeep : Type 0
 PlansKeep =
     (words : List ℕ) (found : Found) (k : KernelState) (c : Calling)
-    → KernelFits words k → k.under_way ≡ Waiting c → is_covered (meant c.call) ≡ true
-    → KernelFits words (plan found k).kernel
+    → KernelFits words k → k.under_way ≡ Waiting c → KernelFits words (plan found k).kernel
 
 -- ---- begin
--- a hart that takes the kernel, whatever it asks
-pub record BeginKeeps (words : List ℕ) (hart pc : ℕ) (regs : List ℕ) (request : Request) (k : KernelState) : Type 0 where
-  pub waits : (begin hart regs pc request k).begun ≢ begun.Planned → KernelFits words (begin hart regs pc request k).kernel
-  pub commits : (c : Calling) → calling_of hart regs pc request (slice_get k.records hart) ≡ Some c
-      → is_covered (meant c.call) ≡ true → KernelFits words (begin hart regs pc request k).kernel
-
+-- a hart that takes the kernel, whatever it asks: the call waits, commits at once, or is to be asked again
 abbrev pub BeginsKeep : Type 0
 BeginsKeep =
     (words : List ℕ) (hart pc : ℕ) (regs : List ℕ) (request : Request) (k : KernelState)
-    → KernelFits words k → k.under_way ≡ Quiet → BeginKeeps words hart pc regs request k
+    → KernelFits words k → k.under_way ≡ Quiet → KernelFits words (begin hart regs pc request k).kernel
 
 -- ---- finish
 -- the kernel is given back once no job is pending
