@@ -1,14 +1,16 @@
 -- How truth values, one for each slot of each area, stand for the held blocks of a heap. This project's own.
-use Rattle.std.specs.Prelude.{ℕ, ◌+◌, ◌-◌, ◌*◌, ◌/◌, ◌≡◌, ◌≤◌, nat_le, nat_lt, Bool, true, false, not, ◌&&◌, if◌then◌else◌, Option, Some, None, List, [], ◌∷◌, length, replicate, slice_get, slice_set, slice_index_or}
+use Rattle.std.specs.Prelude.{ℕ, ◌+◌, ◌-◌, ◌*◌, ◌/◌, ◌≡◌, ◌<◌, ◌≤◌, nat_le, nat_lt, Bool, true, false, not, ◌&&◌, if◌then◌else◌, Option, Some, None, is_some, List, [], ◌∷◌, length, replicate, slice_get, slice_set, slice_index_or}
 use Rattle.std.specs.List.{list_any, list_all}
 use Rattle.osc_class.specs.declared.Room.{Room}
 use Rattle.osc_class.specs.declared.Room.TheVariants.{Small, Pages}
+use Rattle.osc_class.specs.Rooms.{IsRoom}
 use Rattle.osc_slot.specs.declared.Block.{Block}
 use Rattle.osc_slot.specs.declared.HeapPage.{HeapPage}
 use Rattle.osc_slot.specs.Least.{least, any}
-use Rattle.osc_slot.specs.Areas.{area_of, slots_in, block_at_slot}
+use Rattle.osc_slot.specs.Areas.{area_of, slots_of, slots_in, block_at_slot}
 use Rattle.osc_slot.specs.Slots.{Holds}
 use Rattle.osc_slot.specs.Heap.{Heap, IsHeap}
+use Rattle.osc_heap.specs.declared.page_sets.PageSets.{PageSets}
 
 -- the room of an area
 abbrev pub room_at : ℕ → Room
@@ -95,3 +97,34 @@ pub record AreParts (frames : ℕ) (rows : List (List Bool)) (pages : List HeapP
   pub sized : AreSized frames 0 rows
   pub is_heap : IsHeap (heap_of frames rows pages)
   pub room_for_all : frames ≤ room
+
+-- the slots of a page of a room's area, where the pages of a block of whole pages count as one
+abbrev pub page_slots : Room → ℕ
+page_slots (Small class) = slots_of class
+page_slots (Pages pages) = 1
+
+-- the pages of a room's area, counted so
+abbrev pub page_count : ℕ → Room → ℕ
+page_count frames (Small class) = frames
+page_count frames (Pages pages) = frames / pages
+
+-- what is told of the pages of an area that holds no block
+abbrev pub no_block_on : ℕ → PageSets
+no_block_on count = record { count = count; partly = replicate count false; empty = replicate count true }
+
+abbrev pub with_page : PageSets → ℕ → Bool → Bool → PageSets
+with_page sets page partly empty = record { count = sets.count; partly = slice_set sets.partly page partly; empty = slice_set sets.empty page empty }
+
+-- what is told of each of so many pages is what the truth values of the area say
+pub record TellsRow (pages slots : ℕ) (row : List Bool) (sets : PageSets) : Type 0 where
+  pub count : sets.count ≡ pages
+  pub partly_count : length sets.partly ≡ pages
+  pub empty_count : length sets.empty ≡ pages
+  pub partly : (page : ℕ) → page < pages → bit_at sets.partly page ≡ is_some (page_beside slots row page)
+  pub empty : (page : ℕ) → page < pages → bit_at sets.empty page ≡ not (page_held slots row page)
+
+-- the pages of each class and of the areas after them, up to some area, are told
+pub record TellsRows (frames : ℕ) (rows : List (List Bool)) (told : List PageSets) : Type 0 where
+  pub classes : 13 ≤ length told
+  pub within : length told ≤ length rows
+  pub each : (room : Room) (d : PageSets) → IsRoom room → area_of room < length told → TellsRow (page_count frames room) (page_slots room) (row_of rows room) (slice_index_or told (area_of room) d)

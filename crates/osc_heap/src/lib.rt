@@ -6,6 +6,7 @@
 
 mod area;
 mod areas;
+mod page_sets;
 mod pages;
 mod slots;
 
