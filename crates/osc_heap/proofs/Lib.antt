@@ -6,3 +6,4 @@ pub mod Giving
 pub mod Parts
 pub mod UserBlocks
 pub mod Whole
+pub mod Tells

@@ -1,5 +1,5 @@
 -- How truth values, one for each slot of each area, stand for the held blocks of a heap. This project's own.
-use Rattle.std.specs.Prelude.{ℕ, ◌+◌, ◌-◌, ◌*◌, ◌/◌, ◌≡◌, ◌<◌, ◌≤◌, nat_le, nat_lt, Bool, true, false, not, ◌&&◌, if◌then◌else◌, Option, Some, None, is_some, List, [], ◌∷◌, length, replicate, slice_get, slice_set, slice_index_or}
+use Rattle.std.specs.Prelude.{ℕ, ◌+◌, ◌-◌, ◌*◌, ◌/◌, ◌≡◌, ◌<◌, ◌≤◌, nat_le, nat_lt, Bool, true, false, not, ◌&&◌, if◌then◌else◌, Option, Some, None, is_some, List, [], ◌∷◌, length, min, replicate, slice_get, slice_set, slice_index_or}
 use Rattle.std.specs.List.{list_any, list_all}
 use Rattle.osc_class.specs.declared.Room.{Room}
 use Rattle.osc_class.specs.declared.Room.TheVariants.{Small, Pages}
@@ -123,8 +123,32 @@ pub record TellsRow (pages slots : ℕ) (row : List Bool) (sets : PageSets) : Ty
   pub partly : (page : ℕ) → page < pages → bit_at sets.partly page ≡ is_some (page_beside slots row page)
   pub empty : (page : ℕ) → page < pages → bit_at sets.empty page ≡ not (page_held slots row page)
 
--- the pages of each class and of the areas after them, up to some area, are told
-pub record TellsRows (frames : ℕ) (rows : List (List Bool)) (told : List PageSets) : Type 0 where
-  pub classes : 13 ≤ length told
-  pub within : length told ≤ length rows
+-- so many pages are told
+pub record IsTold (pages : ℕ) (sets : PageSets) : Type 0 where
+  pub count : sets.count ≡ pages
+  pub partly : length sets.partly ≡ pages
+  pub empty : length sets.empty ≡ pages
+
+-- the areas whose pages are told: those of the classes, and those of up to 63 pages, as far as there are
+abbrev pub told_areas : ℕ → ℕ
+told_areas frames = min (13 + frames) 76
+
+-- so many pages are told of each of these areas
+pub record AreTold (frames : ℕ) (told : List PageSets) : Type 0 where
+  pub areas : length told ≡ told_areas frames
+  pub each : (area : ℕ) (d : PageSets) → area < length told → IsTold (page_count frames (room_at area)) (slice_index_or told area d)
+
+-- nothing is told but of areas that hold no block
+pub record TellNone (frames : ℕ) (told : List PageSets) : Type 0 where
+  pub areas : length told ≡ told_areas frames
+  pub each : (area : ℕ) (d : PageSets) → area < length told → slice_index_or told area d ≡ no_block_on (page_count frames (room_at area))
+
+-- the pages of these areas are told
+pub record TellRows (frames : ℕ) (rows : List (List Bool)) (told : List PageSets) : Type 0 where
+  pub areas : length told ≡ told_areas frames
   pub each : (room : Room) (d : PageSets) → IsRoom room → area_of room < length told → TellsRow (page_count frames room) (page_slots room) (row_of rows room) (slice_index_or told (area_of room) d)
+
+-- what is true of the parts of a heap and of what is told of their pages
+pub record AreKept (frames : ℕ) (rows : List (List Bool)) (told : List PageSets) (pages : List HeapPage) (room : ℕ) : Type 0 where
+  pub parts : AreParts frames rows pages room
+  pub tell : TellRows frames rows told

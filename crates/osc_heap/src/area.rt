@@ -2,8 +2,7 @@
 
 ghost use Rattle.std.specs.Prelude.{◌≡◌, ◌+◌, ◌*◌, ◌^◌, ◌<◌, ◌≤◌, Bool, false, not, length, replicate, slice_set, IfOk, IfSome};
 ghost use Rattle.osc_slot.specs.Least.{least, any};
-ghost use Rattle.osc_slot.specs.Slots.{first_slot};
-ghost use Rattle.osc_heap.specs.Layout.{bit_at, free_row, page_held, page_beside, row_beside, row_empty_page};
+ghost use Rattle.osc_heap.specs.Layout.{bit_at, free_row, page_held, page_beside};
 
 use std::alloc::{AllocError, Global};
 use std::marker::Model;
@@ -68,8 +67,8 @@ impl Area {
         any_held(&self.held, page * slots, slots)
     }
 
-    // The least free slot of a page that holds a block.
-    fn free_beside(&self, page: usize, slots: usize) -> Option<usize>
+    /// The least free slot of a page that holds a block.
+    pub fn free_beside(&self, page: usize, slots: usize) -> Option<usize>
         requires { page * slots + slots ≤ length self.now }
         ensures { result ≡ page_beside slots self.now page }
     {
@@ -78,50 +77,6 @@ impl Area {
         } else {
             None
         }
-    }
-
-    /// The least free slot on a page that holds a block, where the area has `pages` pages of `slots`
-    /// slots each.
-    #[tactic(auto, using(crate::proofs::Scans::scans))]
-    pub fn beside(&self, pages: usize, slots: usize) -> Option<usize>
-        requires some { 0 < slots }
-        requires whole { length self.now ≡ pages * slots }
-        ensures { result ≡ row_beside pages slots self.now }
-    {
-        for page in 0..pages {
-            if let Some(slot) = self.free_beside(page, slots) {
-                return Some(slot);
-            }
-        }
-        None
-    }
-
-    /// The first slot of the least page that holds no block.
-    #[tactic(auto, using(crate::proofs::Scans::scans))]
-    pub fn first_of_empty(&self, pages: usize, slots: usize) -> Option<usize>
-        requires whole { length self.now ≡ pages * slots }
-        requires fits { pages * slots < 2 ^ 32 }
-        ensures { result ≡ first_slot slots (row_empty_page pages slots self.now) }
-    {
-        match self.empty_page(pages, slots) {
-            Some(page) => Some(page * slots),
-            None => None,
-        }
-    }
-
-    // The least page that holds no block.
-    #[tactic(auto, using(crate::proofs::Scans::scans), unfolding(crate::specs::Layout::row_empty_page))]
-    fn empty_page(&self, pages: usize, slots: usize) -> Option<usize>
-        requires { length self.now ≡ pages * slots }
-        ensures page { result ≡ row_empty_page pages slots self.now }
-        ensures bound { IfSome result (λ page. page < pages) }
-    {
-        for page in 0..pages {
-            if !self.has_block(page, slots) {
-                return Some(page);
-            }
-        }
-        None
     }
 
     /// The least free slot of the area.

@@ -16,6 +16,7 @@ ghost use Rattle.osc_slot.specs.Slots.{is_held, is_covered, least_start, need};
 ghost use Rattle.osc_slot.specs.Heap.{IsHeap, FramesAgree, AreNames, empty_heap, next_block, place, release, clear, copy, frame_of, block_of_user, free_count};
 
 use crate::area::Area;
+use crate::page_sets::PageSets;
 use osc_class::Room;
 use osc_frames::Frames;
 pub use osc_slot::Block;
@@ -31,6 +32,7 @@ const HEADER: u64 = 16;
 pub struct CanonHeap {
     frames: u32,
     areas: Vec<Area>,
+    told: Vec<PageSets>,
     pages: Vec<HeapPage>,
 }
 
@@ -40,11 +42,11 @@ impl Model for CanonHeap {
     ghost Value = { Heap };
 
     ghost use Rattle.std.specs.Vec.{vec_capacity};
-    ghost use Rattle.osc_heap.specs.Layout.{heap_of, AreParts};
+    ghost use Rattle.osc_heap.specs.Layout.{heap_of, AreKept};
 
     ghost view = { λ heap. heap_of heap.frames heap.areas.items heap.pages.items };
 
-    ghost invariant = { λ heap. AreParts heap.frames heap.areas.items heap.pages.items (vec_capacity heap.pages) };
+    ghost invariant = { λ heap. AreKept heap.frames heap.areas.items heap.told.items heap.pages.items (vec_capacity heap.pages) };
 }
 
 impl CanonHeap {
@@ -54,10 +56,12 @@ impl CanonHeap {
         ensures { IfOk result (λ heap. (heap ≡ empty_heap frames) × IsHeap heap) }
     {
         let areas = areas::free_areas(alloc, frames)?;
+        let told = areas::free_pages(alloc, frames)?;
         let pages = Vec::with_capacity(alloc, frames as usize)?;
         Ok(CanonHeap {
             frames,
             areas,
+            told,
             pages,
         })
     }
@@ -68,7 +72,7 @@ impl CanonHeap {
         ensures need { result ≡ need self.now.frames self.now.held room }
         ensures valid { IsHeap self.now }
     {
-        areas::need_over(&self.areas, self.frames, room)
+        areas::need_over(&self.areas, &self.told, self.frames, room)
     }
 
     /// The frame of a page; None exactly where the page holds no block.
@@ -117,11 +121,11 @@ impl CanonHeap {
         ensures add_up { free_count frames.new + length self.new.pages ≡ free_count frames.old + length self.old.pages }
         ensures valid { IsHeap self.new }
     {
-        let count = areas::need_over(&self.areas, self.frames, room);
-        let slot = areas::least_slot(&self.areas, self.frames, room).unwrap();
+        let count = areas::need_over(&self.areas, &self.told, self.frames, room);
+        let slot = areas::least_slot(&self.areas, &self.told, self.frames, room).unwrap();
         let start = slots::start_of(self.frames, room, slot);
         pages::back(&mut self.pages, frames, start / 4096, count);
-        areas::set_slot(&mut self.areas, room, slot, true);
+        areas::set_slot(&mut self.areas, &mut self.told, self.frames, room, slot, true);
         Block { start, room }
     }
 
@@ -137,7 +141,7 @@ impl CanonHeap {
         ensures valid { IsHeap self.new }
     {
         let slot = slots::slot_near(self.frames, block.room, block.start);
-        areas::set_slot(&mut self.areas, block.room, slot, false);
+        areas::set_slot(&mut self.areas, &mut self.told, self.frames, block.room, slot, false);
         let count = areas::pages_alone(&self.areas, self.frames, block.room, slot);
         pages::give_range(&mut self.pages, frames, block.start / 4096, count);
     }
@@ -150,6 +154,7 @@ impl CanonHeap {
         ensures valid { IsHeap self.now × IsHeap child.new }
     {
         areas::copy_all(&self.areas, &mut child.areas, self.frames);
+        areas::copy_told(&self.told, &mut child.told, self.frames);
         pages::copy_all(&self.pages, &mut child.pages, names);
     }
 
@@ -166,6 +171,7 @@ impl CanonHeap {
         pages::give_all(&self.pages, frames);
         self.pages.clear();
         areas::clear_all(&mut self.areas);
+        areas::clear_told(&mut self.told, self.frames);
     }
 }
 
