@@ -7,3 +7,4 @@ pub mod Parts
 pub mod UserBlocks
 pub mod Whole
 pub mod Tells
+pub mod Held

@@ -1,16 +1,19 @@
 -- How truth values, one for each slot of each area, stand for the held blocks of a heap. This project's own.
-use Rattle.std.specs.Prelude.{ℕ, ◌+◌, ◌-◌, ◌*◌, ◌/◌, ◌≡◌, ◌<◌, ◌≤◌, nat_le, nat_lt, Bool, true, false, not, ◌&&◌, if◌then◌else◌, Option, Some, None, is_some, List, [], ◌∷◌, length, min, replicate, slice_get, slice_set, slice_index_or}
+use Rattle.std.specs.Prelude.{ℕ, ◌+◌, ◌-◌, ◌*◌, ◌/◌, ◌≡◌, ◌<◌, ◌≤◌, nat_le, nat_lt, Bool, true, false, not, ◌&&◌, if◌then◌else◌, Option, Some, None, is_some, List, [], ◌∷◌, length, min, replicate, slice_get, slice_set, slice_index, slice_index_or}
 use Rattle.std.specs.List.{list_any, list_all}
+use Rattle.std.specs.Vec.{vec_capacity}
 use Rattle.osc_class.specs.declared.Room.{Room}
 use Rattle.osc_class.specs.declared.Room.TheVariants.{Small, Pages}
 use Rattle.osc_class.specs.Rooms.{IsRoom}
 use Rattle.osc_slot.specs.declared.Block.{Block}
 use Rattle.osc_slot.specs.declared.HeapPage.{HeapPage}
 use Rattle.osc_slot.specs.Least.{least, any}
-use Rattle.osc_slot.specs.Areas.{area_of, slots_of, slots_in, block_at_slot}
+use Rattle.osc_slot.specs.Areas.{first_page, area_of, slots_of, slots_in, block_at_slot}
 use Rattle.osc_slot.specs.Slots.{Holds}
 use Rattle.osc_slot.specs.Heap.{Heap, IsHeap}
 use Rattle.osc_heap.specs.declared.page_sets.PageSets.{PageSets}
+use Rattle.osc_heap.specs.declared.pages.HeldPages.{HeldPages}
+use Rattle.osc_slot.specs.Ordered.{AllAbove}
 
 -- the room of an area
 abbrev pub room_at : ℕ → Room
@@ -148,7 +151,30 @@ pub record TellRows (frames : ℕ) (rows : List (List Bool)) (told : List PageSe
   pub areas : length told ≡ told_areas frames
   pub each : (room : Room) (d : PageSets) → IsRoom room → area_of room < length told → TellsRow (page_count frames room) (page_slots room) (row_of rows room) (slice_index_or told (area_of room) d)
 
--- what is true of the parts of a heap and of what is told of their pages
-pub record AreKept (frames : ℕ) (rows : List (List Bool)) (told : List PageSets) (pages : List HeapPage) (room : ℕ) : Type 0 where
-  pub parts : AreParts frames rows pages room
+-- the pages of a table from this page on, each with its frame, and those after them
+unfoldable pub pages_from : ℕ → List (Option ℕ) → List HeapPage → List HeapPage
+pages_from page [] rest = rest
+pages_from page (None ∷ table) rest = pages_from (page + 1) table rest
+pages_from page (Some frame ∷ table) rest = record { page = page; frame = frame } ∷ pages_from (page + 1) table rest
+
+abbrev pub pages_of : HeldPages → List HeapPage
+pages_of pages = pages_from first_page pages.table.items pages.rest.items
+
+-- the first page after those of the table
+abbrev pub table_end : HeldPages → ℕ
+table_end pages = first_page + length pages.table.items
+
+-- the others are past the table
+abbrev pub AreHeld : HeldPages → Type 0
+AreHeld pages = AllAbove (λ (p : HeapPage). p.page) (0x1FFFFFF + length pages.table.items) pages.rest.items
+
+abbrev pub renamed : List ℕ → Option ℕ → Option ℕ
+renamed names None = None
+renamed names (Some frame) = Some (slice_index names frame)
+
+-- what is true of the parts of a heap, of what is told of their pages, and of the pages that are kept
+pub record AreKept (frames : ℕ) (rows : List (List Bool)) (told : List PageSets) (pages : HeldPages) : Type 0 where
+  pub parts : AreParts frames rows (pages_of pages) (vec_capacity pages.rest)
   pub tell : TellRows frames rows told
+  pub held : AreHeld pages
+  pub table : length pages.table.items ≡ 13 * frames

@@ -8,6 +8,7 @@ mod area;
 mod areas;
 mod page_sets;
 mod pages;
+mod rest;
 mod slots;
 
 ghost use Rattle.std.specs.Prelude.{◌≡◌, ◌+◌, ◌<◌, ◌≤◌, length, is_some, true, Some, IfOk, IfSome};
@@ -17,10 +18,10 @@ ghost use Rattle.osc_slot.specs.Heap.{IsHeap, FramesAgree, AreNames, empty_heap,
 
 use crate::area::Area;
 use crate::page_sets::PageSets;
+use crate::pages::HeldPages;
 use osc_class::Room;
 use osc_frames::Frames;
 pub use osc_slot::Block;
-use osc_slot::HeapPage;
 use std::alloc::{AllocError, Global};
 use std::marker::Model;
 
@@ -33,7 +34,7 @@ pub struct CanonHeap {
     frames: u32,
     areas: Vec<Area>,
     told: Vec<PageSets>,
-    pages: Vec<HeapPage>,
+    pages: HeldPages,
 }
 
 impl Model for CanonHeap {
@@ -41,12 +42,11 @@ impl Model for CanonHeap {
 
     ghost Value = { Heap };
 
-    ghost use Rattle.std.specs.Vec.{vec_capacity};
-    ghost use Rattle.osc_heap.specs.Layout.{heap_of, AreKept};
+    ghost use Rattle.osc_heap.specs.Layout.{heap_of, pages_of, AreKept};
 
-    ghost view = { λ heap. heap_of heap.frames heap.areas.items heap.pages.items };
+    ghost view = { λ heap. heap_of heap.frames heap.areas.items (pages_of heap.pages) };
 
-    ghost invariant = { λ heap. AreKept heap.frames heap.areas.items heap.told.items heap.pages.items (vec_capacity heap.pages) };
+    ghost invariant = { λ heap. AreKept heap.frames heap.areas.items heap.told.items heap.pages };
 }
 
 impl CanonHeap {
@@ -57,7 +57,7 @@ impl CanonHeap {
     {
         let areas = areas::free_areas(alloc, frames)?;
         let told = areas::free_pages(alloc, frames)?;
-        let pages = Vec::with_capacity(alloc, frames as usize)?;
+        let pages = HeldPages::new(alloc, frames)?;
         Ok(CanonHeap {
             frames,
             areas,
@@ -81,7 +81,7 @@ impl CanonHeap {
         ensures some { is_some result ≡ is_covered self.now.held page }
         ensures valid { IsHeap self.now }
     {
-        pages::frame_of(&self.pages, page)
+        self.pages.frame_of(page)
     }
 
     /// The held block with this user address, which is 16 past its start; None exactly where there is
@@ -124,7 +124,7 @@ impl CanonHeap {
         let count = areas::need_over(&self.areas, &self.told, self.frames, room);
         let slot = areas::least_slot(&self.areas, &self.told, self.frames, room).unwrap();
         let start = slots::start_of(self.frames, room, slot);
-        pages::back(&mut self.pages, frames, start / 4096, count);
+        self.pages.back(frames, start / 4096, count);
         areas::set_slot(&mut self.areas, &mut self.told, self.frames, room, slot, true);
         Block { start, room }
     }
@@ -143,7 +143,7 @@ impl CanonHeap {
         let slot = slots::slot_near(self.frames, block.room, block.start);
         areas::set_slot(&mut self.areas, &mut self.told, self.frames, block.room, slot, false);
         let count = areas::pages_alone(&self.areas, self.frames, block.room, slot);
-        pages::give_range(&mut self.pages, frames, block.start / 4096, count);
+        self.pages.give_range(frames, block.start / 4096, count);
     }
 
     /// Copies the held blocks to the empty heap of a child, over the frames that `names` has for theirs.
@@ -155,7 +155,7 @@ impl CanonHeap {
     {
         areas::copy_all(&self.areas, &mut child.areas, self.frames);
         areas::copy_told(&self.told, &mut child.told, self.frames);
-        pages::copy_all(&self.pages, &mut child.pages, names);
+        child.pages.copy_from(&self.pages, names);
     }
 
     /// Releases each block: the frames of all pages are free.
@@ -168,8 +168,7 @@ impl CanonHeap {
         ensures add_up { free_count frames.new ≡ free_count frames.old + length self.old.pages }
         ensures valid { IsHeap self.new }
     {
-        pages::give_all(&self.pages, frames);
-        self.pages.clear();
+        self.pages.clear(frames);
         areas::clear_all(&mut self.areas);
         areas::clear_told(&mut self.told, self.frames);
     }

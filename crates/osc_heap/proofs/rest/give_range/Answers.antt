@@ -4,7 +4,7 @@ use Rattle.std.specs.List.{remove}
 use Rattle.osc_slot.specs.Heap.{give_back}
 use Rattle.osc_heap.specs.Layout.{in_range, out_of_range}
 use Rattle.osc_heap.proofs.Giving.{given_one, all_given}
-use Rattle.osc_heap.proofs.pages.give_range.Goals as goal
+use Rattle.osc_heap.proofs.rest.give_range.Goals as goal
 
 pub give-requires : goal.give-requires
 give-requires c =

@@ -1,6 +1,6 @@
 -- Each page's frame has a name.
 use Rattle.osc_heap.proofs.Whole.{frame_lt}
-use Rattle.osc_heap.proofs.pages.copy_all.Goals as goal
+use Rattle.osc_heap.proofs.rest.copy_all.Goals as goal
 use Rattle.std.proofs.Common.{length}
 
 pub bounds-names-page : goal.bounds-names-page

@@ -2,7 +2,7 @@
 use Rattle.std.proofs.Common.{◌≡◌, ◌≤◌, ◌+◌, ◌-◌}
 use Rattle.std.specs.Vec.{vec_len, vec_capacity}
 use Rattle.osc_slot.specs.Heap.{back}
-use Rattle.osc_heap.proofs.pages.back.Given as goal
+use Rattle.osc_heap.proofs.rest.back.Given as goal
 
 abbrev pub invariant-loop-page : goal.invariant-loop-page
 invariant-loop-page l = record {

@@ -3,7 +3,7 @@ use Rattle.std.proofs.Common.{◌≡◌, ap, sym, ◌∙◌, unwrap_or, length, 
 use Rattle.std.specs.List.{insert}
 use Rattle.osc_slot.specs.declared.HeapPage.{HeapPage}
 use Rattle.osc_heap.proofs.Scans.{insert_found}
-use Rattle.osc_heap.proofs.pages.put_page.Goals as goal
+use Rattle.osc_heap.proofs.rest.put_page.Goals as goal
 
 pub returns-clause-pages : goal.returns-clause-pages
 returns-clause-pages c =

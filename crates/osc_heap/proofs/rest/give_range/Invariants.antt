@@ -3,7 +3,7 @@ use Rattle.std.proofs.Common.{◌≡◌, ◌≤◌, ◌-◌, ◌++◌, take, dro
 use Rattle.std.specs.Vec.{vec_len, vec_capacity}
 use Rattle.osc_slot.specs.Heap.{give_back}
 use Rattle.osc_heap.specs.Layout.{in_range, out_of_range, CanGiveBack}
-use Rattle.osc_heap.proofs.pages.give_range.Given as goal
+use Rattle.osc_heap.proofs.rest.give_range.Given as goal
 
 abbrev pub invariant-loop-at : goal.invariant-loop-at
 invariant-loop-at l = record {

@@ -2,7 +2,7 @@
 use Rattle.std.proofs.Common.{◌≡◌, drop}
 use Rattle.osc_slot.specs.Heap.{give_back}
 use Rattle.osc_heap.specs.Layout.{CanGiveBack}
-use Rattle.osc_heap.proofs.pages.give_all.Given as goal
+use Rattle.osc_heap.proofs.rest.give_all.Given as goal
 
 abbrev pub invariant-loop-page : goal.invariant-loop-page
 invariant-loop-page l = record {

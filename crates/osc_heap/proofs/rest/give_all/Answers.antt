@@ -2,7 +2,7 @@
 use Rattle.std.proofs.Common.{◌+◌, sym, ap, ◌∙◌, drop}
 use Rattle.osc_slot.specs.Heap.{give_back}
 use Rattle.osc_heap.proofs.Scans.{give_back-drop, can_give-drop}
-use Rattle.osc_heap.proofs.pages.give_all.Goals as goal
+use Rattle.osc_heap.proofs.rest.give_all.Goals as goal
 
 pub give-requires : goal.give-requires
 give-requires c = (can_give-drop c.args.pages.now c.loop-page.page-index (record { page = 0; frame = 0 }) c.loop-page.frames c.loop-page-test.true c.loop-page.invariant.taken).0
