@@ -8,3 +8,4 @@ pub mod UserBlocks
 pub mod Whole
 pub mod Tells
 pub mod Held
+pub mod Places

@@ -267,7 +267,7 @@ pub record Chosen (frames : ℕ) (rows : List (List Bool)) (pages : List HeapPag
   pub small : need_over frames (bits rows) room ≤ 4096
   pub low : first_page ≤ start_of frames room i / 4096
   pub one : start_of frames room i / 4096 < first_page + 13 * frames → need_over frames (bits rows) room ≤ 1
-  pub fresh : 0 < need_over frames (bits rows) room → frame_of pages (start_of frames room i / 4096) ≡ None
+  pub fresh : (q : ℕ) → start_of frames room i / 4096 ≤ q → q < start_of frames room i / 4096 + need_over frames (bits rows) room → frame_of pages q ≡ None
 
 pub some_slot : {frames : ℕ} {rows : List (List Bool)} {pages : List HeapPage} {capacity : ℕ} {heap : Heap} {room : Room} {free : List Bool} → ToPlace frames rows pages capacity heap room free → IsSome (slot frames (bits rows) room)
 some_slot t = let s = spot_of t in rw s.is refl
@@ -291,10 +291,10 @@ chosen {frames} {rows} {pages} {capacity} {heap} {room} {free} t i e =
       small = omega arith;
       low = (let P : ℕ → Type 0 = λ j. first_page ≤ start_of frames room j / 4096 in subst P same (let a = in_area frames room s.next.slot t.is_room s.next.found.within in let w = start_page frames room s.next.slot t.is_room in omega arith));
       one = (let P : ℕ → Type 0 = λ j. start_of frames room j / 4096 < first_page + 13 * frames → need_over frames (bits rows) room ≤ 1 in subst P same (λ m. one_page frames rows room s.next.slot t.is_room s.next.found.within m));
-      fresh = (let P : ℕ → Type 0 = λ j. 0 < need_over frames (bits rows) room → frame_of pages (start_of frames room j / 4096) ≡ None in subst P same (λ m.
+      fresh = (let P : ℕ → Type 0 = λ j. (q : ℕ) → start_of frames room j / 4096 ≤ q → q < start_of frames room j / 4096 + need_over frames (bits rows) room → frame_of pages q ≡ None in subst P same (λ q l m.
           (let first = start_page frames room s.next.slot t.is_room in
-          let empty = s.next.fresh.empty (page_of frames room s.next.slot) (omega arith) (omega arith) in
-          rw first (none_of (frame_of pages (page_of frames room s.next.slot)) (t.parts.is_heap.covered (page_of frames room s.next.slot) ∙ empty)))));
+          let empty = s.next.fresh.empty q (omega arith) (omega arith) in
+          none_of (frame_of pages q) (t.parts.is_heap.covered q ∙ empty))));
     }
   where
     none_of : (x : Option ℕ) → is_some x ≡ false → x ≡ None

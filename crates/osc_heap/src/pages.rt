@@ -1,7 +1,9 @@
 //! The pages that hold blocks, each with its frame: those of the classes by a table, the others in their order.
 
-ghost use Rattle.std.specs.Prelude.{◌≡◌, ◌+◌, ◌*◌, ◌^◌, ◌<◌, ◌≤◌, filter, length, map, replicate, [], None, IfOk};
+ghost use Rattle.std.specs.Prelude.{◌≡◌, ◌+◌, ◌*◌, ◌^◌, ◌<◌, ◌≤◌, filter, length, map, replicate, [], None, IfOk, ℕ};
 ghost use Rattle.std.specs.Vec.{vec_capacity};
+ghost use Rattle.osc_slot.specs.declared.HeapPage.{HeapPage};
+ghost use Rattle.osc_slot.specs.Ordered.{IsAscending};
 ghost use Rattle.osc_slot.specs.Areas.{first_page};
 ghost use Rattle.osc_slot.specs.Heap.{frame_of, back, give_back, rename, HaveFrames};
 ghost use Rattle.osc_heap.specs.Layout.{pages_from, pages_of, renamed, table_end, in_range, out_of_range, AreHeld, CanGiveBack};
@@ -40,7 +42,8 @@ impl HeldPages {
 
     /// The frame of a page; None exactly where the page has none.
     pub fn frame_of(&self, page: u64) -> Option<u32>
-        requires { AreHeld self.now }
+        requires held { AreHeld self.now }
+        requires ascending { IsAscending (λ (p : HeapPage). p.page) (pages_of self.now) }
         ensures { result ≡ frame_of (pages_of self.now) page }
     {
         if page < FIRST_PAGE {
@@ -58,7 +61,8 @@ impl HeldPages {
         requires held { AreHeld self.old }
         requires fits { (first_page ≤ first) × (first + count < 2 ^ 40) }
         requires one { first < table_end self.old → count ≤ 1 }
-        requires fresh { first < table_end self.old → 0 < count → frame_of (pages_of self.old) first ≡ None }
+        requires ascending { IsAscending (λ (p : HeapPage). p.page) (pages_of self.old) }
+        requires fresh { (page : ℕ) → first ≤ page → page < first + count → frame_of (pages_of self.old) page ≡ None }
         requires room { length (pages_of self.old) + count ≤ vec_capacity self.old.rest }
         ensures pages { pages_of self.new ≡ (back count first (record { pages = pages_of self.old; free = frames.old })).pages }
         ensures free { frames.new ≡ (back count first (record { pages = pages_of self.old; free = frames.old })).free }

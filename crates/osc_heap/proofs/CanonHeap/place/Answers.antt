@@ -36,12 +36,15 @@ back-requires-clause-one c = λ l.
     let x = chosen (to_place c.self.inside.frames c.self.inside.areas.items (pages_of c.self.inside.pages) (vec_capacity c.self.inside.pages.rest) c.args.self.now c.args.room c.args.frames.now c.self.view_is c.self.invariant.parts c.requires.frames_agree c.requires.is_room c.requires.enough) c.unwrap-slot.result found in
     rw count (x.one (let table = c.self.invariant.table in rw (c.start_of-start.ensures.start, table) at l))
 
+pub back-requires-clause-ascending : goal.back-requires-clause-ascending
+back-requires-clause-ascending c = c.self.invariant.parts.is_heap.pages_ordered
+
 pub back-requires-clause-fresh : goal.back-requires-clause-fresh
-back-requires-clause-fresh c = λ l n.
+back-requires-clause-fresh c =
     let found : slot c.self.inside.frames (bits c.self.inside.areas.items) c.args.room ≡ Some c.unwrap-slot.result = sym (rw c.deref-3.ensures.value at c.least_slot.ensures) ∙ c.unwrap-slot.ensures in
     let count : c.need_over-count.result ≡ need_over c.self.inside.frames (bits c.self.inside.areas.items) c.args.room = rw c.deref.ensures.value at c.need_over-count.ensures in
     let x = chosen (to_place c.self.inside.frames c.self.inside.areas.items (pages_of c.self.inside.pages) (vec_capacity c.self.inside.pages.rest) c.args.self.now c.args.room c.args.frames.now c.self.view_is c.self.invariant.parts c.requires.frames_agree c.requires.is_room c.requires.enough) c.unwrap-slot.result found in
-    rw c.start_of-start.ensures.start (x.fresh (rw count at n))
+    rw (c.start_of-start.ensures.start, count) x.fresh
 
 pub back-requires-clause-room : goal.back-requires-clause-room
 back-requires-clause-room c =
