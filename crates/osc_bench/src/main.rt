@@ -8,6 +8,7 @@ mod tables;
 mod words;
 
 use anyhow::{Context, Result};
+use heap::Blocks;
 use std::alloc::{AllocError, Global};
 use std::env;
 use tables::Order;
@@ -17,7 +18,7 @@ use tables::Order;
 enum Part {
     Decode,
     Encode,
-    Heap,
+    Heap(Blocks),
     Tables(Order),
 }
 
@@ -26,7 +27,9 @@ impl Part {
         match name {
             "decode" => Some(Part::Decode),
             "encode" => Some(Part::Encode),
-            "heap" => Some(Part::Heap),
+            "heap" => Some(Part::Heap(Blocks::Mixed)),
+            "heap-small" => Some(Part::Heap(Blocks::Small)),
+            "heap-many" => Some(Part::Heap(Blocks::ManySmall)),
             "tables-latest" => Some(Part::Tables(Order::Latest)),
             "tables-oldest" => Some(Part::Tables(Order::Oldest)),
             _ => None,
@@ -37,7 +40,7 @@ impl Part {
         match self {
             Part::Decode => Ok(words::decoded(count)),
             Part::Encode => Ok(words::encoded(count)),
-            Part::Heap => heap::paired(alloc, count),
+            Part::Heap(blocks) => heap::paired(alloc, count, blocks),
             Part::Tables(order) => tables::paired(alloc, count, order),
         }
     }
@@ -48,7 +51,7 @@ fn main(rt: HostRuntime) -> Result<()> {
     let name = arguments.next().context("the words are PART and COUNT")?;
     let count = arguments.next().context("the words are PART and COUNT")?;
     let part = Part::named(name.as_str()).context(
-        "PART is decode, encode, heap, tables-latest or tables-oldest",
+        "PART is decode, encode, heap, heap-small, heap-many, tables-latest or tables-oldest",
     )?;
     let count: u64 = count.parse().context("COUNT is a number")?;
     let checksum = part.checksum(rt.alloc(), count)?;
