@@ -63,7 +63,10 @@ fn beside(areas: &[Area], told: &[PageSets], frames: u32, class: u8) -> Option<u
     ensures { result ≡ beside frames (bits areas.now) class }
 {
     match told[class as usize].first_partly() {
-        Some(page) => area_for(areas, frames, Room::Small(class)).free_beside(page as usize, slots_of(class)),
+        Some(page) => area_for(areas, frames, Room::Small(class)).free_beside(
+            page as usize,
+            slots_of(class),
+        ),
         None => None,
     }
 }

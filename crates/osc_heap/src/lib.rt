@@ -125,7 +125,14 @@ impl CanonHeap {
         let slot = areas::least_slot(&self.areas, &self.told, self.frames, room).unwrap();
         let start = slots::start_of(self.frames, room, slot);
         self.pages.back(frames, start / 4096, count);
-        areas::set_slot(&mut self.areas, &mut self.told, self.frames, room, slot, true);
+        areas::set_slot(
+            &mut self.areas,
+            &mut self.told,
+            self.frames,
+            room,
+            slot,
+            true,
+        );
         Block { start, room }
     }
 
@@ -141,7 +148,14 @@ impl CanonHeap {
         ensures valid { IsHeap self.new }
     {
         let slot = slots::slot_near(self.frames, block.room, block.start);
-        areas::set_slot(&mut self.areas, &mut self.told, self.frames, block.room, slot, false);
+        areas::set_slot(
+            &mut self.areas,
+            &mut self.told,
+            self.frames,
+            block.room,
+            slot,
+            false,
+        );
         let count = areas::pages_alone(&self.areas, self.frames, block.room, slot);
         self.pages.give_range(frames, block.start / 4096, count);
     }

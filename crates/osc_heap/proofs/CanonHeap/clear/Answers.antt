@@ -19,7 +19,7 @@ clear_told-requires c = sets_told c.self.inside.frames c.self.inside.areas.items
 pub invariant_of-self : goal.invariant_of-self
 invariant_of-self c = record {
   parts = (cleared c.self.inside.frames c.self.inside.areas.items (pages_of c.self.inside.pages) (vec_capacity c.self.inside.pages.rest) c.args.self.now c.args.frames.now c.self.view_is c.self.invariant.parts c.requires
-    c.clear_all.new.areas.items (pages_of c.clear.new.self) c.clear.new.frames (vec_capacity c.clear.new.self.rest) c.clear_all.ensures c.clear.ensures.pages c.clear.ensures.free c.clear.ensures.room).parts;
+      c.clear_all.new.areas.items (pages_of c.clear.new.self) c.clear.new.frames (vec_capacity c.clear.new.self.rest) c.clear_all.ensures c.clear.ensures.pages c.clear.ensures.free c.clear.ensures.room).parts;
   tell = rw c.clear_all.ensures (none_told c.self.inside.frames (map free_row c.self.inside.areas.items) c.clear_told.new.told.items (free_cleared c.self.inside.areas.items) c.clear_told.ensures);
   held = c.clear.ensures.held;
   table = c.clear.ensures.table ∙ c.self.invariant.table;

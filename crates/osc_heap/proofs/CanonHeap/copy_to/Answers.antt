@@ -39,7 +39,7 @@ invariant_of-child c =
     let room = c.copy_from.ensures.room in
     record {
       parts = (copied c.self.inside.frames c.self.inside.areas.items (pages_of c.self.inside.pages) (vec_capacity c.self.inside.pages.rest) c.args.self.now c.args.names.now c.self.view_is c.self.invariant.parts c.requires.names
-    c.child.inside.frames c.copy_all.new.into.items (pages_of c.copy_from.new.self) (vec_capacity c.copy_from.new.self.rest) same (rw c.deref.ensures.value at c.copy_all.ensures) c.copy_from.ensures.pages (omega arith)).parts;
+          c.child.inside.frames c.copy_all.new.into.items (pages_of c.copy_from.new.self) (vec_capacity c.copy_from.new.self.rest) same (rw c.deref.ensures.value at c.copy_all.ensures) c.copy_from.ensures.pages (omega arith)).parts;
       tell = rw (same, rw c.deref.ensures.value at c.copy_all.ensures, rw c.deref-2.ensures.value at c.copy_told.ensures) c.self.invariant.tell;
       held = c.copy_from.ensures.held;
       table = c.copy_from.ensures.table ∙ c.child.invariant.table ∙ ap (λ n. 13 * n) refl;

@@ -65,8 +65,8 @@ invariant_of-self c =
     record {
       parts = rw c.set_slot.ensures.areas
           (placed (to_place c.self.inside.frames c.self.inside.areas.items (pages_of c.self.inside.pages) (vec_capacity c.self.inside.pages.rest) c.args.self.now c.args.room c.args.frames.now c.self.view_is c.self.invariant.parts c.requires.frames_agree c.requires.is_room c.requires.enough)
-    c.unwrap-slot.result found (pages_of c.back.new.self) c.back.new.frames (vec_capacity c.back.new.self.rest) c.back.ensures.room
-    (rw (c.start_of-start.ensures.start, count) at c.back.ensures.pages) (rw (c.start_of-start.ensures.start, count) at c.back.ensures.free)).parts;
+          c.unwrap-slot.result found (pages_of c.back.new.self) c.back.new.frames (vec_capacity c.back.new.self.rest) c.back.ensures.room
+          (rw (c.start_of-start.ensures.start, count) at c.back.ensures.pages) (rw (c.start_of-start.ensures.start, count) at c.back.ensures.free)).parts;
       tell = c.set_slot.ensures.told;
       held = c.back.ensures.held;
       table = c.back.ensures.table ∙ c.self.invariant.table;

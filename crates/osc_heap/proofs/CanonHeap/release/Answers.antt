@@ -41,7 +41,7 @@ invariant_of-self c =
     record {
       parts = rw c.set_slot.ensures.areas
           (released (to_release c.self.inside.frames c.self.inside.areas.items (pages_of c.self.inside.pages) (vec_capacity c.self.inside.pages.rest) c.args.self.now c.args.block c.args.frames.now c.self.view_is c.self.invariant.parts c.requires.frames_agree c.requires.held)
-    c.slot_near-slot.result c.pages_alone-count.result c.slot_near-slot.ensures count (pages_of c.give_range.new.self) c.give_range.new.frames (vec_capacity c.give_range.new.self.rest) c.give_range.ensures.room c.give_range.ensures.pages c.give_range.ensures.free).parts;
+          c.slot_near-slot.result c.pages_alone-count.result c.slot_near-slot.ensures count (pages_of c.give_range.new.self) c.give_range.new.frames (vec_capacity c.give_range.new.self.rest) c.give_range.ensures.room c.give_range.ensures.pages c.give_range.ensures.free).parts;
       tell = c.set_slot.ensures.told;
       held = c.give_range.ensures.held;
       table = c.give_range.ensures.table ∙ c.self.invariant.table;
