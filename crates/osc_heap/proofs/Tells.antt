@@ -182,6 +182,12 @@ beside_told frames class rows told d x is l e f =
     ap (on_page (slots_of class) (row_of rows (Small class))) (f ∙ partly_least frames class rows told d is l e)
     ∙ sym (row_beside_least frames (slots_of class) (row_of rows (Small class)) (slots_positive class l)) ∙ beside_is frames rows class
 
+pub has_told : (frames class : ℕ) (rows : List (List Bool)) (told : List PageSets) (d : PageSets) (x : Option ℕ) → TellRows frames rows told → class < 13 → d ≡ slice_index_or told class d → x ≡ least_free d.partly → is_some x ≡ is_some (beside frames (bits rows) class)
+has_told frames class rows told d None is l e f = ap (λ (y : Option ℕ). is_some y) (beside_told frames class rows told d None is l e f)
+has_told frames class rows told d (Some page) is l e f =
+    let found = least-Some (λ p. is_some (page_beside (slots_of class) (row_of rows (Small class)) p)) 0 frames page (sym (f ∙ partly_least frames class rows told d is l e)) in
+    sym found.0 ∙ ap (λ (y : Option ℕ). is_some y) (beside_told frames class rows told d (Some page) is l e f)
+
 pub partly_within : (frames class page : ℕ) (rows : List (List Bool)) (told : List PageSets) (d : PageSets) → TellRows frames rows told → class < 13 → d ≡ slice_index_or told class d → Some page ≡ least_free d.partly
     → page * slots_of class + slots_of class ≤ frames * slots_of class
 partly_within frames class page rows told d is l e f =

@@ -71,6 +71,17 @@ fn beside(areas: &[Area], told: &[PageSets], frames: u32, class: u8) -> Option<u
     }
 }
 
+// Whether a page of a class holds a block and has a free slot.
+fn has_beside(areas: &[Area], told: &[PageSets], frames: u32, class: u8) -> bool
+    requires most { frames ≤ 4096 }
+    requires areas { length areas.now ≡ 13 + frames }
+    requires told { TellRows frames areas.now told.now }
+    requires is_class { class < 13 }
+    ensures { result ≡ is_some (beside frames (bits areas.now) class) }
+{
+    told[class as usize].first_partly().is_some()
+}
+
 // The first slot of the least page of a class that holds no block.
 fn first_of_empty(areas: &[Area], told: &[PageSets], frames: u32, class: u8) -> Option<usize>
     requires most { frames ≤ 4096 }
@@ -139,10 +150,13 @@ pub fn need_over(areas: &[Area], told: &[PageSets], frames: u32, room: Room) -> 
     ensures { result ≡ need_over frames (bits areas.now) room }
 {
     match room {
-        Room::Small(class) => match beside(areas, told, frames, class) {
-            Some(_) => 0,
-            None => 1,
-        },
+        Room::Small(class) => {
+            if has_beside(areas, told, frames, class) {
+                0
+            } else {
+                1
+            }
+        }
         Room::Pages(pages) => pages,
     }
 }
