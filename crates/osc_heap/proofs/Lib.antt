@@ -9,3 +9,4 @@ pub mod Whole
 pub mod Tells
 pub mod Held
 pub mod Places
+pub mod SlotBits

@@ -14,6 +14,7 @@ use Rattle.osc_slot.specs.Heap.{Heap, IsHeap}
 use Rattle.osc_heap.specs.declared.page_sets.PageSets.{PageSets}
 use Rattle.osc_heap.specs.declared.pages.HeldPages.{HeldPages}
 use Rattle.osc_slot.specs.Ordered.{AllAbove}
+use Rattle.osc_frames.specs.Words.{has}
 
 -- the room of an area
 abbrev pub room_at : ℕ → Room
@@ -21,6 +22,11 @@ room_at area = if nat_lt area 13 then Small area else Pages (area - 12)
 
 abbrev pub bit_at : List Bool → ℕ → Bool
 bit_at row slot = slice_index_or row slot false
+
+-- whether the bit of a number is as wanted
+abbrev pub has_as : List ℕ → Bool → ℕ → Bool
+has_as words true n = has words n
+has_as words false n = not (has words n)
 
 -- the truth values of a room's area
 abbrev pub row_of : List (List Bool) → Room → List Bool

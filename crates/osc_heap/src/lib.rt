@@ -9,6 +9,7 @@ mod areas;
 mod page_sets;
 mod pages;
 mod rest;
+mod slot_bits;
 mod slots;
 
 ghost use Rattle.std.specs.Prelude.{◌≡◌, ◌+◌, ◌<◌, ◌≤◌, length, is_some, true, Some, IfOk, IfSome};
