@@ -1,5 +1,4 @@
-//! Blocks of a heap over 4096 frames: every size class and blocks of two pages, in turn. Each block is
-//! released when 512 more were placed.
+//! Blocks of a heap over 4096 frames: blocks of every size class and of two pages in turn, or of 24 bytes.
 
 ghost use Rattle.std.specs.Prelude.{IfOk};
 ghost use Rattle.osc_class.specs.Rooms.{IsRoom};
@@ -14,24 +13,49 @@ use std::collections::VecDeque;
 /// The frames of the machine.
 const FRAMES: u32 = 4096;
 
-/// How many blocks are held at a time.
-const HELD: u64 = 512;
-
 /// Requests of every size class, and of two pages.
 const REQUESTS: [u64; 14] = [
     16, 32, 48, 80, 112, 176, 240, 368, 496, 752, 1008, 1520, 2032, 8176,
 ];
 
-/// The sum of the starts of `count` blocks, each of which is placed and released.
-pub fn paired(alloc: Global, count: u64) -> Result<u64, AllocError> {
+/// Which blocks are placed, and how many of them are held at a time.
+#[derive(Clone, Copy)]
+pub enum Blocks {
+    /// Of every size class and of two pages, 512 at a time.
+    Mixed,
+    /// Of 24 bytes, 512 at a time.
+    Small,
+    /// Of 24 bytes, 100,000 at a time.
+    ManySmall,
+}
+
+impl Blocks {
+    fn held(self) -> u64 {
+        match self {
+            Blocks::Mixed | Blocks::Small => 512,
+            Blocks::ManySmall => 100_000,
+        }
+    }
+
+    fn request(self, number: u64) -> u64 {
+        match self {
+            Blocks::Mixed => REQUESTS[(number % 14) as usize],
+            Blocks::Small | Blocks::ManySmall => 24,
+        }
+    }
+}
+
+/// The sum of the starts of `count` blocks, each of which is released when as many more were placed as
+/// are held at a time.
+pub fn paired(alloc: Global, count: u64, blocks: Blocks) -> Result<u64, AllocError> {
     let (mut heap, mut frames) = machine(alloc)?;
-    let mut held = VecDeque::with_capacity(alloc, HELD as usize)?;
+    let mut held = VecDeque::with_capacity(alloc, blocks.held() as usize)?;
     let mut sum: u64 = 0;
     for number in 0..count {
-        if number >= HELD {
+        if number >= blocks.held() {
             release(&mut heap, &mut frames, held.pop_front().unwrap_or(0));
         }
-        let request = REQUESTS[(number % 14) as usize];
+        let request = blocks.request(number);
         let user = place(&mut heap, &mut frames, room_of(request));
         held.push_back(user)?;
         sum = sum.wrapping_add(user);

@@ -9,6 +9,7 @@ mod tables;
 mod words;
 
 use anyhow::{Context, Result};
+use heap::Blocks;
 use std::alloc::{AllocError, Global};
 use std::env;
 use tables::Order;
@@ -19,7 +20,7 @@ enum Part {
     Decode,
     Encode,
     Hart,
-    Heap,
+    Heap(Blocks),
     Tables(Order),
 }
 
@@ -29,7 +30,9 @@ impl Part {
             "decode" => Some(Part::Decode),
             "encode" => Some(Part::Encode),
             "hart" => Some(Part::Hart),
-            "heap" => Some(Part::Heap),
+            "heap" => Some(Part::Heap(Blocks::Mixed)),
+            "heap-small" => Some(Part::Heap(Blocks::Small)),
+            "heap-many" => Some(Part::Heap(Blocks::ManySmall)),
             "tables-latest" => Some(Part::Tables(Order::Latest)),
             "tables-oldest" => Some(Part::Tables(Order::Oldest)),
             _ => None,
@@ -41,7 +44,7 @@ impl Part {
             Part::Decode => Ok(words::decoded(count)),
             Part::Encode => Ok(words::encoded(count)),
             Part::Hart => hart::stepped(alloc, count),
-            Part::Heap => heap::paired(alloc, count),
+            Part::Heap(blocks) => heap::paired(alloc, count, blocks),
             Part::Tables(order) => tables::paired(alloc, count, order),
         }
     }
@@ -52,7 +55,7 @@ fn main(rt: HostRuntime) -> Result<()> {
     let name = arguments.next().context("the words are PART and COUNT")?;
     let count = arguments.next().context("the words are PART and COUNT")?;
     let part = Part::named(name.as_str()).context(
-        "PART is decode, encode, hart, heap, tables-latest or tables-oldest",
+        "PART is decode, encode, hart, heap, heap-small, heap-many, tables-latest or tables-oldest",
     )?;
     let count: u64 = count.parse().context("COUNT is a number")?;
     let checksum = part.checksum(rt.alloc(), count)?;

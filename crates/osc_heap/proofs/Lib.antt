@@ -6,3 +6,7 @@ pub mod Giving
 pub mod Parts
 pub mod UserBlocks
 pub mod Whole
+pub mod Tells
+pub mod Held
+pub mod Places
+pub mod SlotBits

@@ -11,7 +11,7 @@ use Rattle.osc_slot.specs.declared.HeapPage.{HeapPage}
 use Rattle.osc_slot.specs.Least.{least, any}
 use Rattle.osc_slot.specs.Areas.{first_page, area_of, slots_of, slots_in, page_of, start_of, block_at_slot}
 use Rattle.osc_slot.specs.Slots.{is_block, is_held, Holds, holds_in, beside, empty_page, first_slot, or_else, slot, need, need_over, pages_alone, least_start, start_of_slot, is_covered}
-use Rattle.osc_slot.specs.Heap.{Heap, HeapAndFree, Backing, back, give_back, with_block, without_block, next_block, place, release, IsHeap, FramesAgree, Keeps, free_count}
+use Rattle.osc_slot.specs.Heap.{Heap, HeapAndFree, Backing, frame_of, back, give_back, with_block, without_block, next_block, place, release, IsHeap, FramesAgree, Keeps, free_count}
 use Rattle.osc_slot.proofs.Bounds.{start_page, in_area, pages_within, pages_positive}
 use Rattle.osc_slot.proofs.Exists.{same_slot}
 use Rattle.osc_slot.proofs.HeldBlocks.{is_block_self}
@@ -243,6 +243,21 @@ spot_of : {frames : ℕ} {rows : List (List Bool)} {pages : List HeapPage} {capa
 spot_of {frames} {rows} {pages} {capacity} {heap} {room} {free} t =
     spot frames rows pages room free capacity t.parts (rw t.is t.agree) t.is_room (let P : Heap → Type 0 = λ h. need h.frames h.held room ≤ free_count free in subst P (sym t.is) t.enough)
 
+-- a block on a page of the classes' areas has no more than this page
+pub one_block : (frames : ℕ) (room : Room) (i : ℕ) → IsRoom room → i < slots_in frames room → start_of frames room i / 4096 < first_page + 13 * frames → shadow_pages room ≤ 1
+one_block frames (Small class) i r l m = omega arith
+one_block frames (Pages pages) i r l m =
+    let first = start_page frames (Pages pages) i r in
+    let more : 13 * frames ≤ (12 + pages) * frames = mul-le 13 frames (12 + pages) frames (omega arith) (omega arith) in
+    absurd (omega arith)
+
+need_le : (frames : ℕ) (rows : List (List Bool)) (room : Room) → need_over frames (bits rows) room ≤ shadow_pages room
+need_le frames rows (Small class) = grind arith
+need_le frames rows (Pages pages) = omega arith
+
+one_page : (frames : ℕ) (rows : List (List Bool)) (room : Room) (i : ℕ) → IsRoom room → i < slots_in frames room → start_of frames room i / 4096 < first_page + 13 * frames → need_over frames (bits rows) room ≤ 1
+one_page frames rows room i r l m = let few = need_le frames rows room in let one = one_block frames room i r l m in omega arith
+
 -- the slot that was found
 pub record Chosen (frames : ℕ) (rows : List (List Bool)) (pages : List HeapPage) (capacity : ℕ) (heap : Heap) (room : Room) (free : List Bool) (i : ℕ) : Type 0 where
   pub within : i < slots_in frames room
@@ -250,6 +265,9 @@ pub record Chosen (frames : ℕ) (rows : List (List Bool)) (pages : List HeapPag
   pub row : i < length (row_of rows room)
   pub fits : length pages + need_over frames (bits rows) room ≤ capacity
   pub small : need_over frames (bits rows) room ≤ 4096
+  pub low : first_page ≤ start_of frames room i / 4096
+  pub one : start_of frames room i / 4096 < first_page + 13 * frames → need_over frames (bits rows) room ≤ 1
+  pub fresh : (q : ℕ) → start_of frames room i / 4096 ≤ q → q < start_of frames room i / 4096 + need_over frames (bits rows) room → frame_of pages q ≡ None
 
 pub some_slot : {frames : ℕ} {rows : List (List Bool)} {pages : List HeapPage} {capacity : ℕ} {heap : Heap} {room : Room} {free : List Bool} → ToPlace frames rows pages capacity heap room free → IsSome (slot frames (bits rows) room)
 some_slot t = let s = spot_of t in rw s.is refl
@@ -271,7 +289,17 @@ chosen {frames} {rows} {pages} {capacity} {heap} {room} {free} t i e =
       row = (let P : ℕ → Type 0 = λ j. j < length (row_of rows room) in subst P same s.row);
       fits = omega arith;
       small = omega arith;
+      low = (let P : ℕ → Type 0 = λ j. first_page ≤ start_of frames room j / 4096 in subst P same (let a = in_area frames room s.next.slot t.is_room s.next.found.within in let w = start_page frames room s.next.slot t.is_room in omega arith));
+      one = (let P : ℕ → Type 0 = λ j. start_of frames room j / 4096 < first_page + 13 * frames → need_over frames (bits rows) room ≤ 1 in subst P same (λ m. one_page frames rows room s.next.slot t.is_room s.next.found.within m));
+      fresh = (let P : ℕ → Type 0 = λ j. (q : ℕ) → start_of frames room j / 4096 ≤ q → q < start_of frames room j / 4096 + need_over frames (bits rows) room → frame_of pages q ≡ None in subst P same (λ q l m.
+          (let first = start_page frames room s.next.slot t.is_room in
+          let empty = s.next.fresh.empty q (omega arith) (omega arith) in
+          none_of (frame_of pages q) (t.parts.is_heap.covered q ∙ empty))));
     }
+  where
+    none_of : (x : Option ℕ) → is_some x ≡ false → x ≡ None
+    none_of None e = refl
+    none_of (Some y) e = cc
 
 pub record Placed (frames : ℕ) (rows : List (List Bool)) (heap : Heap) (room : Room) (free : List Bool) (i : ℕ) (now : List HeapPage) (left : List Bool) (after : ℕ) : Type 0 where
   pub start : Some (start_of frames room i) ≡ least_start heap.frames heap.held room
@@ -348,6 +376,7 @@ pub record Lies (frames : ℕ) (rows : List (List Bool)) (pages : List HeapPage)
   pub positive : 0 < frames
   pub past : first_page ≤ block.start / 4096
   pub bound : block.start / 4096 + shadow_pages block.room < 2 ^ 39
+  pub one : block.start / 4096 < first_page + 13 * frames → shadow_pages block.room ≤ 1
   pub areas : length (with_bit rows block.room i false) ≡ 13 + frames
   pub sized : AreSized frames 0 (with_bit rows block.room i false)
   pub can_give_back : (first count : ℕ) → CanGiveBack free (filter (in_range first count) pages)
@@ -377,6 +406,7 @@ lies {frames} {rows} {pages} {capacity} {heap} {block} {free} t =
       positive = omega arith;
       past = omega arith;
       bound = omega arith;
+      one = λ m. one_block frames block.room s.last.slot r s.within (rw first at m);
       areas = omega arith;
       sized = sized-set frames 0 (area_of block.room) s.last.slot false rows t.parts.sized;
       can_give_back = λ first count. can_release frames rows pages free capacity first count t.parts (rw t.is t.agree);

@@ -29,7 +29,7 @@ unfolding least
 least_end test i end l = let e : end - i ≡ 0 = omega arith in rw e refl
 
 -- a range in two parts
-least_split : (test : ℕ → Bool) (from a b : ℕ) → least test from (a + b) ≡ or_else (least test from a) (least test (from + a) b)
+pub least_split : (test : ℕ → Bool) (from a b : ℕ) → least test from (a + b) ≡ or_else (least test from a) (least test (from + a) b)
 unfolding least
 least_split test from zero b =
     let e : zero + b ≡ b = omega arith in
@@ -41,7 +41,7 @@ least_split test from (suc a) b =
     let m : from + suc a ≡ from + 1 + a = omega arith in
     rw (e, m) (grind (arith, rest))
 
-least_none : (from count : ℕ) → least (λ slot. false) from count ≡ None
+pub least_none : (from count : ℕ) → least (λ slot. false) from count ≡ None
 unfolding least
 least_none from zero = refl
 least_none from (suc count) = least_none (from + 1) count

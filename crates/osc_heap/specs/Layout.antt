@@ -1,14 +1,20 @@
 -- How truth values, one for each slot of each area, stand for the held blocks of a heap. This project's own.
-use Rattle.std.specs.Prelude.{ℕ, ◌+◌, ◌-◌, ◌*◌, ◌/◌, ◌≡◌, ◌≤◌, nat_le, nat_lt, Bool, true, false, not, ◌&&◌, if◌then◌else◌, Option, Some, None, List, [], ◌∷◌, length, replicate, slice_get, slice_set, slice_index_or}
+use Rattle.std.specs.Prelude.{ℕ, ◌+◌, ◌-◌, ◌*◌, ◌/◌, ◌≡◌, ◌<◌, ◌≤◌, nat_le, nat_lt, Bool, true, false, not, ◌&&◌, if◌then◌else◌, Option, Some, None, is_some, List, [], ◌∷◌, length, min, replicate, slice_get, slice_set, slice_index, slice_index_or}
 use Rattle.std.specs.List.{list_any, list_all}
+use Rattle.std.specs.Vec.{vec_capacity}
 use Rattle.osc_class.specs.declared.Room.{Room}
 use Rattle.osc_class.specs.declared.Room.TheVariants.{Small, Pages}
+use Rattle.osc_class.specs.Rooms.{IsRoom}
 use Rattle.osc_slot.specs.declared.Block.{Block}
 use Rattle.osc_slot.specs.declared.HeapPage.{HeapPage}
 use Rattle.osc_slot.specs.Least.{least, any}
-use Rattle.osc_slot.specs.Areas.{area_of, slots_in, block_at_slot}
+use Rattle.osc_slot.specs.Areas.{first_page, area_of, slots_of, slots_in, block_at_slot}
 use Rattle.osc_slot.specs.Slots.{Holds}
 use Rattle.osc_slot.specs.Heap.{Heap, IsHeap}
+use Rattle.osc_heap.specs.declared.page_sets.PageSets.{PageSets}
+use Rattle.osc_heap.specs.declared.pages.HeldPages.{HeldPages}
+use Rattle.osc_slot.specs.Ordered.{AllAbove}
+use Rattle.osc_frames.specs.Words.{has}
 
 -- the room of an area
 abbrev pub room_at : ℕ → Room
@@ -16,6 +22,11 @@ room_at area = if nat_lt area 13 then Small area else Pages (area - 12)
 
 abbrev pub bit_at : List Bool → ℕ → Bool
 bit_at row slot = slice_index_or row slot false
+
+-- whether the bit of a number is as wanted
+abbrev pub has_as : List ℕ → Bool → ℕ → Bool
+has_as words true n = has words n
+has_as words false n = not (has words n)
 
 -- the truth values of a room's area
 abbrev pub row_of : List (List Bool) → Room → List Bool
@@ -95,3 +106,81 @@ pub record AreParts (frames : ℕ) (rows : List (List Bool)) (pages : List HeapP
   pub sized : AreSized frames 0 rows
   pub is_heap : IsHeap (heap_of frames rows pages)
   pub room_for_all : frames ≤ room
+
+-- the slots of a page of a room's area, where the pages of a block of whole pages count as one
+abbrev pub page_slots : Room → ℕ
+page_slots (Small class) = slots_of class
+page_slots (Pages pages) = 1
+
+-- the pages of a room's area, counted so
+abbrev pub page_count : ℕ → Room → ℕ
+page_count frames (Small class) = frames
+page_count frames (Pages pages) = frames / pages
+
+-- what is told of the pages of an area that holds no block
+abbrev pub no_block_on : ℕ → PageSets
+no_block_on count = record { count = count; partly = replicate count false; empty = replicate count true }
+
+abbrev pub with_page : PageSets → ℕ → Bool → Bool → PageSets
+with_page sets page partly empty = record { count = sets.count; partly = slice_set sets.partly page partly; empty = slice_set sets.empty page empty }
+
+-- what is told of each of so many pages is what the truth values of the area say
+pub record TellsRow (pages slots : ℕ) (row : List Bool) (sets : PageSets) : Type 0 where
+  pub count : sets.count ≡ pages
+  pub partly_count : length sets.partly ≡ pages
+  pub empty_count : length sets.empty ≡ pages
+  pub partly : (page : ℕ) → page < pages → bit_at sets.partly page ≡ is_some (page_beside slots row page)
+  pub empty : (page : ℕ) → page < pages → bit_at sets.empty page ≡ not (page_held slots row page)
+
+-- so many pages are told
+pub record IsTold (pages : ℕ) (sets : PageSets) : Type 0 where
+  pub count : sets.count ≡ pages
+  pub partly : length sets.partly ≡ pages
+  pub empty : length sets.empty ≡ pages
+
+-- the areas whose pages are told: those of the classes, and those of up to 63 pages, as far as there are
+abbrev pub told_areas : ℕ → ℕ
+told_areas frames = min (13 + frames) 76
+
+-- so many pages are told of each of these areas
+pub record AreTold (frames : ℕ) (told : List PageSets) : Type 0 where
+  pub areas : length told ≡ told_areas frames
+  pub each : (area : ℕ) (d : PageSets) → area < length told → IsTold (page_count frames (room_at area)) (slice_index_or told area d)
+
+-- nothing is told but of areas that hold no block
+pub record TellNone (frames : ℕ) (told : List PageSets) : Type 0 where
+  pub areas : length told ≡ told_areas frames
+  pub each : (area : ℕ) (d : PageSets) → area < length told → slice_index_or told area d ≡ no_block_on (page_count frames (room_at area))
+
+-- the pages of these areas are told
+pub record TellRows (frames : ℕ) (rows : List (List Bool)) (told : List PageSets) : Type 0 where
+  pub areas : length told ≡ told_areas frames
+  pub each : (room : Room) (d : PageSets) → IsRoom room → area_of room < length told → TellsRow (page_count frames room) (page_slots room) (row_of rows room) (slice_index_or told (area_of room) d)
+
+-- the pages of a table from this page on, each with its frame, and those after them
+unfoldable pub pages_from : ℕ → List (Option ℕ) → List HeapPage → List HeapPage
+pages_from page [] rest = rest
+pages_from page (None ∷ table) rest = pages_from (page + 1) table rest
+pages_from page (Some frame ∷ table) rest = record { page = page; frame = frame } ∷ pages_from (page + 1) table rest
+
+abbrev pub pages_of : HeldPages → List HeapPage
+pages_of pages = pages_from first_page pages.table.items pages.rest.items
+
+-- the first page after those of the table
+abbrev pub table_end : HeldPages → ℕ
+table_end pages = first_page + length pages.table.items
+
+-- the others are past the table
+abbrev pub AreHeld : HeldPages → Type 0
+AreHeld pages = AllAbove (λ (p : HeapPage). p.page) (0x1FFFFFF + length pages.table.items) pages.rest.items
+
+abbrev pub renamed : List ℕ → Option ℕ → Option ℕ
+renamed names None = None
+renamed names (Some frame) = Some (slice_index names frame)
+
+-- what is true of the parts of a heap, of what is told of their pages, and of the pages that are kept
+pub record AreKept (frames : ℕ) (rows : List (List Bool)) (told : List PageSets) (pages : HeldPages) : Type 0 where
+  pub parts : AreParts frames rows (pages_of pages) (vec_capacity pages.rest)
+  pub tell : TellRows frames rows told
+  pub held : AreHeld pages
+  pub table : length pages.table.items ≡ 13 * frames

@@ -2,24 +2,28 @@
 
 ghost use Rattle.std.specs.Prelude.{◌≡◌, ◌+◌, ◌*◌, ◌^◌, ◌<◌, ◌≤◌, Bool, false, not, length, replicate, slice_set, IfOk, IfSome};
 ghost use Rattle.osc_slot.specs.Least.{least, any};
-ghost use Rattle.osc_slot.specs.Slots.{first_slot};
-ghost use Rattle.osc_heap.specs.Layout.{bit_at, free_row, page_held, page_beside, row_beside, row_empty_page};
+ghost use Rattle.osc_heap.specs.Layout.{bit_at, free_row, page_held, page_beside};
 
+use crate::slot_bits;
 use std::alloc::{AllocError, Global};
 use std::marker::Model;
 
 /// The slots of an area, true where held.
 #[derive(Drop)]
 pub struct Area {
-    held: Vec<bool>,
+    slots: usize,
+    held: Vec<u64>,
 }
 
 impl Model for Area {
-    ghost use Rattle.std.specs.Prelude.{List, Bool};
+    ghost use Rattle.std.specs.Prelude.{◌≡◌, ◌+◌, ◌/◌, ◌^◌, ◌<◌, List, Bool, length};
+    ghost use Rattle.osc_frames.specs.Words.{numbers_of};
 
     ghost Value = { List Bool };
 
-    ghost view = { λ area. area.held.items };
+    ghost view = { λ area. numbers_of area.held.items area.slots };
+
+    ghost invariant = { λ area. (length area.held.items ≡ area.slots / 64 + 1) × (area.slots < 2 ^ 64) };
 }
 
 impl Area {
@@ -28,28 +32,29 @@ impl Area {
         ensures { IfOk result (λ area. area ≡ replicate slots false) }
     {
         Ok(Area {
-            held: vec![in alloc; false; slots]?,
+            slots,
+            held: slot_bits::no_bits(alloc, slots / 64 + 1)?,
         })
     }
 
     pub fn is_held(&self, slot: usize) -> bool
         ensures { result ≡ bit_at self.now slot }
     {
-        slot < self.held.len() && self.held[slot]
+        slot < self.slots && slot_bits::is_set(&self.held, slot)
     }
 
     pub fn set(&mut self, slot: usize, held: bool)
         requires { slot < length self.old }
         ensures { self.new ≡ slice_set self.old slot held }
     {
-        self.held[slot] = held;
+        slot_bits::set_bit(&mut self.held, slot, held);
     }
 
     /// Frees each slot.
     pub fn clear(&mut self)
         ensures { self.new ≡ free_row self.old }
     {
-        self.held.fill(false);
+        self.held.fill(0);
     }
 
     /// Holds the slots that another area of this size holds.
@@ -65,97 +70,25 @@ impl Area {
         requires { page * slots + slots ≤ length self.now }
         ensures { result ≡ page_held slots self.now page }
     {
-        any_held(&self.held, page * slots, slots)
+        slot_bits::least_as(&self.held, page * slots, slots, true).is_some()
     }
 
-    // The least free slot of a page that holds a block.
-    fn free_beside(&self, page: usize, slots: usize) -> Option<usize>
+    /// The least free slot of a page that holds a block.
+    pub fn free_beside(&self, page: usize, slots: usize) -> Option<usize>
         requires { page * slots + slots ≤ length self.now }
         ensures { result ≡ page_beside slots self.now page }
     {
         if self.has_block(page, slots) {
-            least_free(&self.held, page * slots, slots)
+            slot_bits::least_as(&self.held, page * slots, slots, false)
         } else {
             None
         }
-    }
-
-    /// The least free slot on a page that holds a block, where the area has `pages` pages of `slots`
-    /// slots each.
-    #[tactic(auto, using(crate::proofs::Scans::scans))]
-    pub fn beside(&self, pages: usize, slots: usize) -> Option<usize>
-        requires some { 0 < slots }
-        requires whole { length self.now ≡ pages * slots }
-        ensures { result ≡ row_beside pages slots self.now }
-    {
-        for page in 0..pages {
-            if let Some(slot) = self.free_beside(page, slots) {
-                return Some(slot);
-            }
-        }
-        None
-    }
-
-    /// The first slot of the least page that holds no block.
-    #[tactic(auto, using(crate::proofs::Scans::scans))]
-    pub fn first_of_empty(&self, pages: usize, slots: usize) -> Option<usize>
-        requires whole { length self.now ≡ pages * slots }
-        requires fits { pages * slots < 2 ^ 32 }
-        ensures { result ≡ first_slot slots (row_empty_page pages slots self.now) }
-    {
-        match self.empty_page(pages, slots) {
-            Some(page) => Some(page * slots),
-            None => None,
-        }
-    }
-
-    // The least page that holds no block.
-    #[tactic(auto, using(crate::proofs::Scans::scans), unfolding(crate::specs::Layout::row_empty_page))]
-    fn empty_page(&self, pages: usize, slots: usize) -> Option<usize>
-        requires { length self.now ≡ pages * slots }
-        ensures page { result ≡ row_empty_page pages slots self.now }
-        ensures bound { IfSome result (λ page. page < pages) }
-    {
-        for page in 0..pages {
-            if !self.has_block(page, slots) {
-                return Some(page);
-            }
-        }
-        None
     }
 
     /// The least free slot of the area.
     pub fn least_free(&self) -> Option<usize>
         ensures { result ≡ least (λ slot. not (bit_at self.now slot)) 0 (length self.now) }
     {
-        least_free(&self.held, 0, self.held.len())
+        slot_bits::least_as(&self.held, 0, self.slots, false)
     }
-}
-
-// Whether one of `count` slots from `first` on is held.
-#[tactic(auto, using(crate::proofs::Scans::scans))]
-fn any_held(held: &[bool], first: usize, count: usize) -> bool
-    requires { first + count ≤ length held.now }
-    ensures { result ≡ any (λ slot. bit_at held.now slot) first count }
-{
-    for slot in first..first + count {
-        if held[slot] {
-            return true;
-        }
-    }
-    false
-}
-
-// The least free one of `count` slots from `first` on.
-#[tactic(auto, using(crate::proofs::Scans::scans))]
-fn least_free(held: &[bool], first: usize, count: usize) -> Option<usize>
-    requires { first + count ≤ length held.now }
-    ensures { result ≡ least (λ slot. not (bit_at held.now slot)) first count }
-{
-    for slot in first..first + count {
-        if !held[slot] {
-            return Some(slot);
-        }
-    }
-    None
 }

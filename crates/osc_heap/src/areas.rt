@@ -1,16 +1,21 @@
 //! The areas of a heap: which slot the next block takes, and what it needs.
 
-ghost use Rattle.std.specs.Prelude.{◌≡◌, ◌+◌, ◌<◌, ◌≤◌, length, map, IfOk};
+ghost use Rattle.std.specs.Prelude.{◌≡◌, ◌+◌, ◌*◌, ◌/◌, ◌<◌, ◌≤◌, not, is_some, length, map, IfOk};
+ghost use Rattle.osc_slot.specs.Least.{least};
 ghost use Rattle.osc_class.specs.declared.Room.TheVariants.{Small};
 ghost use Rattle.osc_class.specs.Rooms.{IsRoom};
 ghost use Rattle.osc_slot.specs.Areas.{area_of, slots_of, slots_in};
 ghost use Rattle.osc_slot.specs.Slots.{slot, beside, empty_page, first_slot, has_block, need_over, pages_alone};
-ghost use Rattle.osc_heap.specs.Layout.{AreFree, AreSized, free_row, row_of, bits, with_bit};
+ghost use Rattle.osc_heap.specs.Layout.{AreFree, AreSized, AreTold, TellNone, TellRows, told_areas, free_row, page_beside, page_held, page_slots, row_of, bits, with_bit, with_page};
 
 use crate::area::Area;
-use crate::slots::{area_of, room_at, slots_in, slots_of};
+use crate::page_sets::PageSets;
+use crate::slots::{area_of, page_count, page_slots, room_at, slots_in, slots_of};
 use osc_class::Room;
 use std::alloc::{AllocError, Global};
+
+/// The areas whose pages are told. Each of the others has at most 64 slots.
+const TOLD_AREAS: usize = 76;
 
 /// The areas of a heap that holds no block.
 pub fn free_areas(alloc: Global, frames: u32) -> Result<Vec<Area>, AllocError>
@@ -25,6 +30,19 @@ pub fn free_areas(alloc: Global, frames: u32) -> Result<Vec<Area>, AllocError>
     Ok(areas)
 }
 
+/// What is told of the pages of a heap that holds no block.
+pub fn free_pages(alloc: Global, frames: u32) -> Result<Vec<PageSets>, AllocError>
+    requires { frames ≤ 4096 }
+    ensures { IfOk result (λ told. TellNone frames told.items) }
+{
+    let count = (13 + frames as usize).min(TOLD_AREAS);
+    let mut told = Vec::with_capacity(alloc, count)?;
+    for area in 0..count {
+        told.push(PageSets::new(alloc, page_count(frames, room_at(area)))?)?;
+    }
+    Ok(told)
+}
+
 // The area of a room.
 fn area_for(areas: &[Area], frames: u32, room: Room) -> &Area
     requires most { frames ≤ 4096 }
@@ -37,23 +55,63 @@ fn area_for(areas: &[Area], frames: u32, room: Room) -> &Area
 }
 
 // The least free slot on a page of a class that holds a block.
-fn beside(areas: &[Area], frames: u32, class: u8) -> Option<usize>
+fn beside(areas: &[Area], told: &[PageSets], frames: u32, class: u8) -> Option<usize>
     requires most { frames ≤ 4096 }
     requires areas { (length areas.now ≡ 13 + frames) × AreSized frames 0 areas.now }
+    requires told { TellRows frames areas.now told.now }
     requires is_class { class < 13 }
     ensures { result ≡ beside frames (bits areas.now) class }
 {
-    area_for(areas, frames, Room::Small(class)).beside(frames as usize, slots_of(class))
+    match told[class as usize].first_partly() {
+        Some(page) => area_for(areas, frames, Room::Small(class)).free_beside(
+            page as usize,
+            slots_of(class),
+        ),
+        None => None,
+    }
+}
+
+// Whether a page of a class holds a block and has a free slot.
+fn has_beside(areas: &[Area], told: &[PageSets], frames: u32, class: u8) -> bool
+    requires most { frames ≤ 4096 }
+    requires areas { length areas.now ≡ 13 + frames }
+    requires told { TellRows frames areas.now told.now }
+    requires is_class { class < 13 }
+    ensures { result ≡ is_some (beside frames (bits areas.now) class) }
+{
+    told[class as usize].first_partly().is_some()
 }
 
 // The first slot of the least page of a class that holds no block.
-fn first_of_empty(areas: &[Area], frames: u32, class: u8) -> Option<usize>
+fn first_of_empty(areas: &[Area], told: &[PageSets], frames: u32, class: u8) -> Option<usize>
     requires most { frames ≤ 4096 }
-    requires areas { (length areas.now ≡ 13 + frames) × AreSized frames 0 areas.now }
+    requires areas { length areas.now ≡ 13 + frames }
+    requires told { TellRows frames areas.now told.now }
     requires is_class { class < 13 }
     ensures { result ≡ first_slot (slots_of class) (empty_page frames (bits areas.now) class) }
 {
-    area_for(areas, frames, Room::Small(class)).first_of_empty(frames as usize, slots_of(class))
+    match told[class as usize].first_empty() {
+        Some(page) => Some(page as usize * slots_of(class)),
+        None => None,
+    }
+}
+
+// The least free slot for a block of whole pages.
+fn first_whole(areas: &[Area], told: &[PageSets], frames: u32, room: Room) -> Option<usize>
+    requires most { frames ≤ 4096 }
+    requires areas { (length areas.now ≡ 13 + frames) × AreSized frames 0 areas.now }
+    requires told { TellRows frames areas.now told.now }
+    requires is_room { IsRoom room × (13 ≤ area_of room) × (area_of room < length areas.now) }
+    ensures { result ≡ least (λ slot. not (bits areas.now room slot)) 0 (slots_in frames room) }
+{
+    let area = area_of(room);
+    if area < told.len() {
+        return match told[area].first_empty() {
+            Some(slot) => Some(slot as usize),
+            None => None,
+        };
+    }
+    area_for(areas, frames, room).least_free()
 }
 
 // Whether a page of a class holds a block.
@@ -67,33 +125,38 @@ fn has_block(areas: &[Area], frames: u32, class: u8, page: usize) -> bool
 }
 
 /// The slot of the next block of a room.
-pub fn least_slot(areas: &[Area], frames: u32, room: Room) -> Option<usize>
+pub fn least_slot(areas: &[Area], told: &[PageSets], frames: u32, room: Room) -> Option<usize>
     requires most { frames ≤ 4096 }
     requires areas { (length areas.now ≡ 13 + frames) × AreSized frames 0 areas.now }
+    requires told { TellRows frames areas.now told.now }
     requires is_room { IsRoom room × (area_of room < length areas.now) }
     ensures { result ≡ slot frames (bits areas.now) room }
 {
     match room {
-        Room::Small(class) => match beside(areas, frames, class) {
+        Room::Small(class) => match beside(areas, told, frames, class) {
             Some(slot) => Some(slot),
-            None => first_of_empty(areas, frames, class),
+            None => first_of_empty(areas, told, frames, class),
         },
-        Room::Pages(_) => area_for(areas, frames, room).least_free(),
+        Room::Pages(_) => first_whole(areas, told, frames, room),
     }
 }
 
 /// The frames that the next block of a room newly takes.
-pub fn need_over(areas: &[Area], frames: u32, room: Room) -> u64
+pub fn need_over(areas: &[Area], told: &[PageSets], frames: u32, room: Room) -> u64
     requires most { frames ≤ 4096 }
     requires areas { (length areas.now ≡ 13 + frames) × AreSized frames 0 areas.now }
+    requires told { TellRows frames areas.now told.now }
     requires is_room { IsRoom room }
     ensures { result ≡ need_over frames (bits areas.now) room }
 {
     match room {
-        Room::Small(class) => match beside(areas, frames, class) {
-            Some(_) => 0,
-            None => 1,
-        },
+        Room::Small(class) => {
+            if has_beside(areas, told, frames, class) {
+                0
+            } else {
+                1
+            }
+        }
         Room::Pages(pages) => pages,
     }
 }
@@ -119,12 +182,40 @@ pub fn pages_alone(areas: &[Area], frames: u32, room: Room, slot: usize) -> u64
 }
 
 /// Sets whether a slot of a room's area is held.
-pub fn set_slot(areas: &mut Vec<Area>, room: Room, slot: usize, held: bool)
-    requires area { (area_of room ≤ 4108) × (area_of room < length areas.old.items) }
-    requires within { slot < length (row_of areas.old.items room) }
-    ensures { areas.new.items ≡ with_bit areas.old.items room slot held }
+pub fn set_slot(
+    areas: &mut Vec<Area>,
+    told: &mut Vec<PageSets>,
+    frames: u32,
+    room: Room,
+    slot: usize,
+    held: bool,
+)
+    requires most { frames ≤ 4096 }
+    requires areas { (length areas.old.items ≡ 13 + frames) × AreSized frames 0 areas.old.items }
+    requires told { TellRows frames areas.old.items told.old.items }
+    requires is_room { IsRoom room × (area_of room < length areas.old.items) }
+    requires within { slot < slots_in frames room }
+    ensures areas { areas.new.items ≡ with_bit areas.old.items room slot held }
+    ensures told { TellRows frames areas.new.items told.new.items }
 {
-    areas[area_of(room)].set(slot, held);
+    let area = area_of(room);
+    areas[area].set(slot, held);
+    if area < told.len() {
+        tell(&areas[area], &mut told[area], slot, page_slots(room));
+    }
+}
+
+// Tells what the page of a slot holds.
+fn tell(area: &Area, sets: &mut PageSets, slot: usize, slots: usize)
+    requires some { 0 < slots }
+    requires page { slot / slots * slots + slots ≤ length area.now }
+    requires within { (slot / slots < length sets.old.partly) × (slot / slots < length sets.old.empty) × (slot / slots < 4096) }
+    ensures { sets.new ≡ with_page sets.old (slot / slots) (is_some (page_beside slots area.now (slot / slots))) (not (page_held slots area.now (slot / slots))) }
+{
+    let page = slot / slots;
+    let partly = area.free_beside(page, slots).is_some();
+    let empty = !area.has_block(page, slots);
+    sets.tell(page as u32, partly, empty);
 }
 
 /// Whether a slot of a room's area is held.
@@ -144,6 +235,16 @@ pub fn clear_all(areas: &mut Vec<Area>)
     }
 }
 
+/// Tells that no page holds a block.
+pub fn clear_told(told: &mut Vec<PageSets>, frames: u32)
+    requires { AreTold frames told.old.items }
+    ensures { TellNone frames told.new.items }
+{
+    for i in 0..told.len() {
+        told[i].clear();
+    }
+}
+
 /// Holds the slots that other areas of these sizes hold.
 pub fn copy_all(areas: &[Area], into: &mut Vec<Area>, frames: u32)
     requires from { (length areas.now ≡ 13 + frames) × AreSized frames 0 areas.now }
@@ -152,5 +253,16 @@ pub fn copy_all(areas: &[Area], into: &mut Vec<Area>, frames: u32)
 {
     for i in 0..areas.len() {
         into[i].copy_from(&areas[i]);
+    }
+}
+
+/// Tells what other areas of these sizes tell.
+pub fn copy_told(told: &[PageSets], into: &mut Vec<PageSets>, frames: u32)
+    requires from { AreTold frames told.now }
+    requires to { AreTold frames into.old.items }
+    ensures { into.new.items ≡ told.now }
+{
+    for i in 0..told.len() {
+        into[i].copy_from(&told[i]);
     }
 }

@@ -6,7 +6,10 @@
 
 mod area;
 mod areas;
+mod page_sets;
 mod pages;
+mod rest;
+mod slot_bits;
 mod slots;
 
 ghost use Rattle.std.specs.Prelude.{◌≡◌, ◌+◌, ◌<◌, ◌≤◌, length, is_some, true, Some, IfOk, IfSome};
@@ -15,10 +18,11 @@ ghost use Rattle.osc_slot.specs.Slots.{is_held, is_covered, least_start, need};
 ghost use Rattle.osc_slot.specs.Heap.{IsHeap, FramesAgree, AreNames, empty_heap, next_block, place, release, clear, copy, frame_of, block_of_user, free_count};
 
 use crate::area::Area;
+use crate::page_sets::PageSets;
+use crate::pages::HeldPages;
 use osc_class::Room;
 use osc_frames::Frames;
 pub use osc_slot::Block;
-use osc_slot::HeapPage;
 use std::alloc::{AllocError, Global};
 use std::marker::Model;
 
@@ -30,7 +34,8 @@ const HEADER: u64 = 16;
 pub struct CanonHeap {
     frames: u32,
     areas: Vec<Area>,
-    pages: Vec<HeapPage>,
+    told: Vec<PageSets>,
+    pages: HeldPages,
 }
 
 impl Model for CanonHeap {
@@ -38,12 +43,11 @@ impl Model for CanonHeap {
 
     ghost Value = { Heap };
 
-    ghost use Rattle.std.specs.Vec.{vec_capacity};
-    ghost use Rattle.osc_heap.specs.Layout.{heap_of, AreParts};
+    ghost use Rattle.osc_heap.specs.Layout.{heap_of, pages_of, AreKept};
 
-    ghost view = { λ heap. heap_of heap.frames heap.areas.items heap.pages.items };
+    ghost view = { λ heap. heap_of heap.frames heap.areas.items (pages_of heap.pages) };
 
-    ghost invariant = { λ heap. AreParts heap.frames heap.areas.items heap.pages.items (vec_capacity heap.pages) };
+    ghost invariant = { λ heap. AreKept heap.frames heap.areas.items heap.told.items heap.pages };
 }
 
 impl CanonHeap {
@@ -53,10 +57,12 @@ impl CanonHeap {
         ensures { IfOk result (λ heap. (heap ≡ empty_heap frames) × IsHeap heap) }
     {
         let areas = areas::free_areas(alloc, frames)?;
-        let pages = Vec::with_capacity(alloc, frames as usize)?;
+        let told = areas::free_pages(alloc, frames)?;
+        let pages = HeldPages::new(alloc, frames)?;
         Ok(CanonHeap {
             frames,
             areas,
+            told,
             pages,
         })
     }
@@ -67,7 +73,7 @@ impl CanonHeap {
         ensures need { result ≡ need self.now.frames self.now.held room }
         ensures valid { IsHeap self.now }
     {
-        areas::need_over(&self.areas, self.frames, room)
+        areas::need_over(&self.areas, &self.told, self.frames, room)
     }
 
     /// The frame of a page; None exactly where the page holds no block.
@@ -76,7 +82,7 @@ impl CanonHeap {
         ensures some { is_some result ≡ is_covered self.now.held page }
         ensures valid { IsHeap self.now }
     {
-        pages::frame_of(&self.pages, page)
+        self.pages.frame_of(page)
     }
 
     /// The held block with this user address, which is 16 past its start; None exactly where there is
@@ -116,11 +122,18 @@ impl CanonHeap {
         ensures add_up { free_count frames.new + length self.new.pages ≡ free_count frames.old + length self.old.pages }
         ensures valid { IsHeap self.new }
     {
-        let count = areas::need_over(&self.areas, self.frames, room);
-        let slot = areas::least_slot(&self.areas, self.frames, room).unwrap();
+        let count = areas::need_over(&self.areas, &self.told, self.frames, room);
+        let slot = areas::least_slot(&self.areas, &self.told, self.frames, room).unwrap();
         let start = slots::start_of(self.frames, room, slot);
-        pages::back(&mut self.pages, frames, start / 4096, count);
-        areas::set_slot(&mut self.areas, room, slot, true);
+        self.pages.back(frames, start / 4096, count);
+        areas::set_slot(
+            &mut self.areas,
+            &mut self.told,
+            self.frames,
+            room,
+            slot,
+            true,
+        );
         Block { start, room }
     }
 
@@ -136,9 +149,16 @@ impl CanonHeap {
         ensures valid { IsHeap self.new }
     {
         let slot = slots::slot_near(self.frames, block.room, block.start);
-        areas::set_slot(&mut self.areas, block.room, slot, false);
+        areas::set_slot(
+            &mut self.areas,
+            &mut self.told,
+            self.frames,
+            block.room,
+            slot,
+            false,
+        );
         let count = areas::pages_alone(&self.areas, self.frames, block.room, slot);
-        pages::give_range(&mut self.pages, frames, block.start / 4096, count);
+        self.pages.give_range(frames, block.start / 4096, count);
     }
 
     /// Copies the held blocks to the empty heap of a child, over the frames that `names` has for theirs.
@@ -149,7 +169,8 @@ impl CanonHeap {
         ensures valid { IsHeap self.now × IsHeap child.new }
     {
         areas::copy_all(&self.areas, &mut child.areas, self.frames);
-        pages::copy_all(&self.pages, &mut child.pages, names);
+        areas::copy_told(&self.told, &mut child.told, self.frames);
+        child.pages.copy_from(&self.pages, names);
     }
 
     /// Releases each block: the frames of all pages are free.
@@ -162,9 +183,9 @@ impl CanonHeap {
         ensures add_up { free_count frames.new ≡ free_count frames.old + length self.old.pages }
         ensures valid { IsHeap self.new }
     {
-        pages::give_all(&self.pages, frames);
-        self.pages.clear();
+        self.pages.clear(frames);
         areas::clear_all(&mut self.areas);
+        areas::clear_told(&mut self.told, self.frames);
     }
 }
 

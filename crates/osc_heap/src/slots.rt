@@ -4,7 +4,7 @@ ghost use Rattle.std.specs.Prelude.{ℕ, ◌≡◌, ◌≢◌, ◌+◌, ◌*◌,
 ghost use Rattle.osc_class.specs.declared.Room.{Room};
 ghost use Rattle.osc_class.specs.Rooms.{size_of, IsRoom};
 ghost use Rattle.osc_slot.specs.Areas.{first_page, area_of, slots_of, slots_in, start_of};
-ghost use Rattle.osc_heap.specs.Layout.{room_at};
+ghost use Rattle.osc_heap.specs.Layout.{room_at, page_slots, page_count};
 
 use osc_class::{Room, block_bytes};
 
@@ -65,6 +65,30 @@ pub fn slots_in(frames: u32, room: Room) -> usize
     match room {
         Room::Small(class) => frames as usize * slots_of(class),
         Room::Pages(pages) => (u64::from(frames) / pages) as usize,
+    }
+}
+
+/// The slots of a page of a room's area, where the pages of a block of whole pages count as one.
+pub fn page_slots(room: Room) -> usize
+    requires { IsRoom room }
+    ensures slots { result ≡ page_slots room }
+    ensures some { 0 < result }
+{
+    match room {
+        Room::Small(class) => slots_of(class),
+        Room::Pages(_) => 1,
+    }
+}
+
+/// The pages of a room's area, where those of a block of whole pages count as one.
+pub fn page_count(frames: u32, room: Room) -> u32
+    requires { IsRoom room }
+    ensures count { result ≡ page_count frames room }
+    ensures bound { result ≤ frames }
+{
+    match room {
+        Room::Small(_) => frames,
+        Room::Pages(pages) => (u64::from(frames) / pages) as u32,
     }
 }
 
