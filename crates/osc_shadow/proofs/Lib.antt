@@ -16,3 +16,4 @@ pub mod GivenUp
 pub mod Clears
 pub mod Killed
 pub mod Looked
+pub mod Fresh

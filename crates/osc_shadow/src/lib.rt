@@ -33,3 +33,6 @@ pub struct Space {
     pub marks: Marks,
     pub heap: CanonHeap,
 }
+
+#[cfg(test)]
+mod tests;
