@@ -7,3 +7,6 @@ mod release;
 
 pub use answer::FreePlan;
 pub use release::plan_free;
+
+#[cfg(test)]
+mod tests;

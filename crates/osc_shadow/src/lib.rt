@@ -19,7 +19,7 @@ pub use leaves::{is_linked, next_leaf};
 pub use malloc::{Malloced, plan_malloc};
 pub use memory::{Lack, know_tables, memory_lack};
 pub use shadows::{map_shadows, unmap_shadows};
-pub use words::{HEADER, block_word, fill_block, zero_words};
+pub use words::{HEADER, block_word, copy_bytes, fill_block, trim_block, zero_words};
 
 use osc_heap::CanonHeap;
 use osc_mark::Marks;
