@@ -1,6 +1,5 @@
 -- A first malloc makes the memory with one object, whose parts agree.
-use Rattle.std.proofs.Common.{ℕ, ◌≡◌, ◌+◌, Bool, List, [], ◌∷◌, Option, Some, None, refl, ap, sym, subst, ◌∙◌, length}
-use Rattle.std.specs.Prelude.{replicate}
+use Rattle.std.proofs.Common.{◌≡◌, Bool, List, [], Some, refl, ap, sym, subst, ◌∙◌}
 use Rattle.osc_word.specs.declared.job_list.Job.{Job}
 use Rattle.osc_word.specs.declared.settings.HeapKind.TheVariants.{Oscar}
 use Rattle.osc_frames.specs.Free.{all_free, without_frame}
@@ -8,7 +7,7 @@ use Rattle.osc_slot.specs.Heap.{Heap, empty_heap}
 use Rattle.osc_paging.specs.KeptTables.{KeptTables, closed}
 use Rattle.osc_paging.specs.TableChanges.{opened}
 use Rattle.osc_mark.specs.Grants.{Grants, no_grants}
-use Rattle.osc_space.specs.Space.{Space, Draft, Outcome, Closing, Keeps}
+use Rattle.osc_space.specs.Space.{Space, Draft, Outcome, Keeps}
 use Rattle.osc_space.specs.Malloc.{malloc_plan}
 use Rattle.osc_space.specs.Finish.{finished}
 use Rattle.osc_space.specs.Header.{header_in}
@@ -16,7 +15,7 @@ use Rattle.osc_space.specs.Share.{no_regions}
 use Rattle.osc_space.specs.Agree.{SpaceAgrees}
 use Rattle.osc_space.specs.Examples.{fresh}
 use Rattle.osc_space.specs.AgreeExamples.{one_space, one_free, made_space, made_free, OneAgrees}
-use Rattle.osc_shadow.specs.Parts.{space_of, draft_of, PartsAgree, PartsAgreeOnHeap}
+use Rattle.osc_shadow.specs.Parts.{space_of, draft_of, PartsAgreeOnHeap}
 use Rattle.osc_shadow.specs.Sight.{GivesWords}
 
 -- ---- the first malloc

@@ -1,5 +1,5 @@
 -- What a free made is the definition's.
-use Rattle.std.proofs.Common.{ℕ, ◌+◌, ◌≡◌, ◌==◌, Bool, true, false, cond, List, [], ◌∷◌, ◌++◌, Option, Some, None, refl, ap, sym, subst, ◌∙◌, length}
+use Rattle.std.proofs.Common.{ℕ, ◌≡◌, ◌==◌, Bool, true, false, cond, List, [], ◌∷◌, ◌++◌, Option, Some, ap, sym, ◌∙◌, length}
 use Rattle.std.specs.List.{range_with_len}
 use Rattle.osc_word.specs.declared.job_list.Job.{Job}
 use Rattle.osc_word.specs.declared.calls.Answer.{Answer}
@@ -13,7 +13,7 @@ use Rattle.osc_mark.specs.Grants.{Grants}
 use Rattle.osc_space.specs.declared.ObjectState.TheVariants.{Live}
 use Rattle.osc_space.specs.Objects.{Seen, facts, kill, object_at}
 use Rattle.osc_space.specs.Header.{Found, damage_reason, object_reasons, death_reasons}
-use Rattle.osc_space.specs.Space.{Draft, Terms, Outcome, Reason, Keeps, first_reason, unless, unchanged}
+use Rattle.osc_space.specs.Space.{Draft, Terms, first_reason, unless}
 use Rattle.osc_space.specs.Free.{unmap_all, let_wait, flush_where, closing_where, freed, free_seen, free_plan}
 use Rattle.osc_shadow.specs.Flushing.{flushed, leaves_over}
 use Rattle.osc_shadow.specs.Parts.{space_of, draft_of}

@@ -1,5 +1,5 @@
 -- What a free is told, and what it made and answered. This project's own.
-use Rattle.std.specs.Prelude.{ℕ, Bool, List, slice_index}
+use Rattle.std.specs.Prelude.{ℕ, List, slice_index}
 use Rattle.osc_word.specs.declared.calls.Answer.TheVariants as answer
 use Rattle.osc_space.specs.Header.{Found}
 use Rattle.osc_space.specs.Space.{Draft, Terms, Outcome, Keeps}

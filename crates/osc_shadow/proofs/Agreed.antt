@@ -1,35 +1,30 @@
 -- What the agreement of the parts gives a plan.
-use Rattle.std.proofs.Common.{ℕ, zero, suc, ◌+◌, ◌-◌, ◌*◌, ◌/◌, ◌^◌, ◌≡◌, ◌≢◌, ◌<◌, ◌≤◌, ◌==◌, ◌||◌, ◌&&◌, Bool, true, false, cond, not, List, [], ◌∷◌, ◌++◌, Option, Some, None, arith, refl, ap, sym, subst, ◌∙◌, length, map, max, position}
-use Rattle.std.specs.Prelude.{filter, is_some, IsSome, slice_get, slice_set, nat_lt}
-use Rattle.std.specs.List.{list_any}
+use Rattle.std.proofs.Common.{ℕ, zero, suc, ◌+◌, ◌≡◌, ◌<◌, ◌≤◌, ◌==◌, ◌||◌, ◌&&◌, Bool, true, false, cond, List, [], ◌∷◌, ◌++◌, Option, Some, None, arith, refl, sym, subst, ◌∙◌, length, map, position}
+use Rattle.std.specs.Prelude.{filter, is_some, nat_lt}
 use Rattle.std.proofs.lemmas.Bool.Decides.{nat_tests}
 use Rattle.std.proofs.lemmas.List.{length-append, length-map}
 use Rattle.std.proofs.lemmas.List.Sums.{sum_by-cons}
-use Rattle.osc_word.specs.AddressMap.{is_within, is_image_or_stack, is_shared, is_shadow, is_canonical_page, is_in_map, first_shadow_page}
+use Rattle.osc_word.specs.AddressMap.{is_within, is_image_or_stack, is_shared, is_shadow, is_canonical_page, first_shadow_page}
 use Rattle.osc_word.specs.declared.settings.HeapKind.TheVariants.{Oscar}
 use Rattle.osc_sv39.specs.declared.entries.Mapping.{Mapping}
 use Rattle.osc_frames.specs.Free.{IsTaken}
 use Rattle.osc_class.specs.declared.Room.{Room}
-use Rattle.osc_class.specs.Rooms.{IsRoom, shadow_pages}
-use Rattle.osc_slot.specs.declared.Block.{Block}
 use Rattle.osc_slot.specs.declared.HeapPage.{HeapPage}
 use Rattle.osc_slot.specs.Slots.{need as block_need}
-use Rattle.osc_slot.specs.Heap.{Heap, Backing, HeapAndFree, FramesAgree, AreTaken, free_count, back, back_by, place}
-use Rattle.osc_slot.proofs.Backing.{LeastFree, least_free, get-set, free_count-take}
+use Rattle.osc_slot.specs.Heap.{Heap, Backing, FramesAgree, AreTaken, free_count, back, back_by, place}
+use Rattle.osc_slot.proofs.Backing.{least_free, get-set, free_count-take}
 use Rattle.osc_paging.specs.declared.Mapped.{Mapped}
 use Rattle.osc_paging.specs.declared.Piece.{Piece}
 use Rattle.osc_paging.specs.declared.TableFrame.{TableFrame}
-use Rattle.osc_paging.specs.KeptTables.{KeptTables, mapping_at, piece_of}
+use Rattle.osc_paging.specs.KeptTables.{mapping_at, piece_of}
 use Rattle.osc_tables.specs.Calls.{HasTaken, IsOpen}
-use Rattle.osc_tables.specs.Inside.{IsTop, AscendFrom}
-use Rattle.osc_mark.specs.Grants.{Grants, AreMarked}
+use Rattle.osc_tables.specs.Inside.{AscendFrom}
 use Rattle.osc_space.specs.declared.ObjectFact.{ObjectFact}
 use Rattle.osc_space.specs.Objects.{mark, next_page, has_page, is_live, is_live_page, GrantedFrom}
 use Rattle.osc_space.specs.Fork.{frames_owned, table_frame_of, heap_frame_of, frame_of_page, image_frames}
 use Rattle.osc_space.specs.Share.{Regions, shared_frames, shared_pages}
 use Rattle.osc_space.specs.Space.{Space}
 use Rattle.osc_space.specs.Agree.{SpaceAgrees, AllTaken, frames_of}
-use Rattle.osc_shadow.specs.Parts.{space_of, PartsAgree}
 use Rattle.osc_shadow.proofs.Counted.{frames_bound, few_pages}
 
 -- ---- frames that are taken

@@ -1,11 +1,9 @@
 -- How many pages are mapped at most, where the parts agree.
-use Rattle.std.proofs.Common.{ℕ, zero, suc, ◌+◌, ◌-◌, ◌*◌, ◌≡◌, ◌≢◌, ◌<◌, ◌≤◌, ◌==◌, ◌||◌, ◌&&◌, Bool, true, false, cond, List, [], ◌∷◌, ◌++◌, Option, Some, None, arith, refl, ap, sym, subst, ◌∙◌, length, map, max}
-use Rattle.std.specs.Prelude.{filter, is_some, slice_get, slice_set}
+use Rattle.std.proofs.Common.{ℕ, suc, ◌+◌, ◌-◌, ◌≡◌, ◌<◌, ◌≤◌, ◌==◌, ◌||◌, Bool, true, false, cond, List, [], ◌∷◌, Some, arith, refl, length, max}
+use Rattle.std.specs.Prelude.{filter, is_some, slice_set}
 use Rattle.std.specs.List.{list_any}
 use Rattle.std.proofs.lemmas.Bool.Decides.{nat_tests}
-use Rattle.std.proofs.lemmas.List.{length-append, length-map}
 use Rattle.osc_word.specs.AddressMap.{is_within, is_image_or_stack, is_shared, first_shadow_page}
-use Rattle.osc_sv39.specs.declared.entries.Mapping.{Mapping}
 use Rattle.osc_slot.specs.Heap.{free_count}
 use Rattle.osc_slot.proofs.Backing.{get-set, length-set, free_count-give, free_count-le}
 use Rattle.osc_paging.specs.declared.Mapped.{Mapped}

@@ -1,5 +1,5 @@
 -- The pieces of a run, one after another.
-use Rattle.std.proofs.Common.{ℕ, zero, suc, ◌+◌, ◌-◌, ◌*◌, ◌≡◌, ◌<◌, min, max, List, [], ◌∷◌, ◌++◌, map, arith, refl, append_assoc, sym, ap, ◌∙◌}
+use Rattle.std.proofs.Common.{ℕ, suc, ◌+◌, ◌-◌, ◌*◌, ◌≡◌, ◌<◌, min, max, List, [], ◌++◌, map, arith, refl, append_assoc, sym, ap, ◌∙◌}
 use Rattle.std.proofs.lemmas.List.{map-append, append-nil}
 use Rattle.osc_word.specs.declared.job_list.Job.{Job}
 use Rattle.osc_space.specs.BlockWords.{Stretch, stretch, cut}

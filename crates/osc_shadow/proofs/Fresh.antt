@@ -1,19 +1,18 @@
 -- The parts of a process that has its topmost table alone agree.
-use Rattle.std.proofs.Common.{ℕ, zero, suc, ◌+◌, ◌-◌, ◌≡◌, ◌<◌, ◌≤◌, ◌==◌, Bool, true, false, List, [], ◌∷◌, Option, Some, None, arith, refl, ap, sym, subst, ◌∙◌, length, get_or}
-use Rattle.std.specs.Prelude.{replicate, slice_get, slice_set, is_some}
+use Rattle.std.proofs.Common.{ℕ, zero, suc, ◌+◌, ◌-◌, ◌≡◌, ◌==◌, Bool, true, false, List, [], Some, arith, refl, ap, sym, ◌∙◌, length}
+use Rattle.std.specs.Prelude.{replicate, slice_get, slice_set}
 use Rattle.std.proofs.lemmas.Bool.Decides.{nat_tests}
 use Rattle.osc_frames.specs.Free.{least_free, without_frame}
 use Rattle.osc_frames.proofs.FreeCount.{least_is_free}
 use Rattle.osc_word.specs.declared.settings.HeapKind.TheVariants.{Oscar}
-use Rattle.osc_sv39.specs.declared.entries.Mapping.{Mapping}
 use Rattle.osc_slot.specs.Heap.{empty_heap}
 use Rattle.osc_slot.proofs.Backing.{get-set, length-set}
 use Rattle.osc_paging.specs.KeptTables.{KeptTables, closed}
 use Rattle.osc_paging.specs.TableChanges.{opened}
 use Rattle.osc_mark.specs.Grants.{no_grants}
 use Rattle.osc_space.specs.Share.{no_regions, holders}
-use Rattle.osc_space.specs.Agree.{SpaceAgrees, WaitingAgree}
-use Rattle.osc_shadow.specs.Parts.{space_of, PartsAgree, PartsAgreeWaiting}
+use Rattle.osc_space.specs.Agree.{SpaceAgrees}
+use Rattle.osc_shadow.specs.Parts.{space_of, PartsAgreeWaiting}
 
 none_held : (count frame : ℕ) → holders (no_regions count) frame ≡ 0
 none_held zero frame = refl

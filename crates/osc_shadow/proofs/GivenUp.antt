@@ -1,29 +1,28 @@
 -- Dead leaf tables are given up, one after another.
-use Rattle.std.proofs.Common.{ℕ, zero, suc, ◌+◌, ◌-◌, ◌*◌, ◌/◌, ◌%◌, ◌^◌, ◌≡◌, ◌<◌, ◌≤◌, ◌==◌, ◌&&◌, Bool, true, false, cond, List, [], ◌∷◌, ◌++◌, Option, Some, None, arith, refl, ap, sym, subst, ◌∙◌, length, get_or, lit<}
-use Rattle.std.specs.Prelude.{is_some, IsSome, filter, filter_map, nat_le, nat_lt, All, slice_get}
+use Rattle.std.proofs.Common.{ℕ, suc, ◌+◌, ◌*◌, ◌/◌, ◌^◌, ◌≡◌, ◌<◌, ◌≤◌, ◌==◌, ◌&&◌, Bool, true, false, cond, List, [], ◌∷◌, Option, Some, None, arith, refl, ap, sym, ◌∙◌, length, get_or}
+use Rattle.std.specs.Prelude.{is_some, filter, All}
 use Rattle.std.specs.List.{list_any}
 use Rattle.std.proofs.lemmas.Bool.Decides.{nat_tests}
 use Rattle.std.proofs.lemmas.List.{length-append}
 use Rattle.std.proofs.lemmas.Option.{slice_get-get_or}
 use Rattle.osc_word.specs.AddressMap.{is_shadow}
-use Rattle.osc_word.specs.JobList.{JobList, spare}
-use Rattle.osc_sv39.specs.Walk.{is_canonical, number_of}
-use Rattle.osc_sv39.specs.declared.entries.Mapping.{Mapping}
-use Rattle.osc_paging.specs.KeptTables.{KeptTables, levels_of, frame_of, mapping_at, mapping_of}
-use Rattle.osc_paging.specs.TableChanges.{Changed, unlinked, reclaim, without_table}
+use Rattle.osc_word.specs.JobList.{JobList}
+use Rattle.osc_sv39.specs.Walk.{number_of}
+use Rattle.osc_paging.specs.KeptTables.{KeptTables, frame_of, mapping_of}
+use Rattle.osc_paging.specs.TableChanges.{Changed, unlinked, reclaim}
 use Rattle.osc_paging.proofs.TableLists.{frame_of-without_table}
 use Rattle.osc_tables.specs.Calls.{IsEmptyLeaf, changed}
 use Rattle.osc_tables.specs.Inside.{IsTop, InOrder}
 use Rattle.osc_mark.specs.Grants.{Grants, AreMarked}
 use Rattle.osc_space.specs.declared.ObjectFact.{ObjectFact}
 use Rattle.osc_space.specs.declared.ObjectState.TheVariants.{Live}
-use Rattle.osc_space.specs.Objects.{fact, facts, is_in_leaf, is_live_page, is_leaf_granted, leaf_dead, mark, next_page}
+use Rattle.osc_space.specs.Objects.{fact, facts, is_in_leaf, is_leaf_granted, leaf_dead, next_page}
 use Rattle.osc_space.specs.Free.{reclaim_all, linked_leaves}
 use Rattle.osc_space.proofs.ObjectLawProofs.{dead_leaves_are_dead}
 use Rattle.osc_shadow.specs.Flushing.{IsLeast, NonePasses, ShowsLive, is_over, leaves_over}
 use Rattle.osc_shadow.proofs.LowPages.{at_top, is_low, low_mapping}
-use Rattle.osc_shadow.proofs.Sights.{Granted, granted_fact}
-use Rattle.osc_shadow.proofs.Ascending.{Ascend, leaves_ascend, is_leaf_there, few_leaves, rest, rest_all, rest_none, rest_next}
+use Rattle.osc_shadow.proofs.Sights.{granted_fact}
+use Rattle.osc_shadow.proofs.Ascending.{leaves_ascend, is_leaf_there, few_leaves, rest, rest_all, rest_none, rest_next}
 
 -- ---- a dead leaf table
 low_leaf : (g : Grants) (leaf : ℕ) → AreMarked g → leaf_dead g.objects leaf ≡ true → (2 ^ 15 ≤ leaf) × (leaf < 2 ^ 16)

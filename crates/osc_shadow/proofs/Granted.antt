@@ -1,27 +1,25 @@
 -- Where a grant is not refused, the shadow pages of its block can be mapped.
-use Rattle.std.proofs.Common.{ℕ, ◌+◌, ◌-◌, ◌*◌, ◌/◌, ◌^◌, ◌≡◌, ◌<◌, ◌≤◌, ◌==◌, Bool, true, false, cond, List, [], ◌∷◌, ◌++◌, Option, Some, None, arith, refl, ap, sym, subst, ◌∙◌, length}
-use Rattle.std.specs.Prelude.{nat_lt, slice_get}
+use Rattle.std.proofs.Common.{ℕ, ◌+◌, ◌≡◌, ◌<◌, ◌≤◌, Bool, true, false, List, [], None, arith, refl, ap, sym, subst, ◌∙◌, length}
+use Rattle.std.specs.Prelude.{nat_lt}
 use Rattle.std.proofs.lemmas.Bool.Decides.{nat_tests}
-use Rattle.osc_word.specs.declared.calls.Answer.TheVariants as answer
-use Rattle.osc_word.specs.JobList.{JobList, spare}
+use Rattle.osc_word.specs.JobList.{JobList}
 use Rattle.osc_frames.specs.Free.{IsTaken}
 use Rattle.osc_class.specs.declared.Room.{Room}
 use Rattle.osc_class.specs.declared.Room.TheVariants.{Small, Pages}
 use Rattle.osc_class.specs.Rooms.{IsRoom, block_bytes, shadow_pages, size_of}
 use Rattle.osc_slot.specs.Slots.{need as block_need}
-use Rattle.osc_slot.specs.Heap.{Heap, FramesAgree, empty_heap, free_count, place}
+use Rattle.osc_slot.specs.Heap.{Heap, empty_heap, free_count, place}
 use Rattle.osc_slot.proofs.Backing.{free_count-le}
-use Rattle.osc_paging.specs.declared.Piece.{Piece}
-use Rattle.osc_paging.specs.KeptTables.{KeptTables, need, piece_of}
-use Rattle.osc_tables.specs.Calls.{HasTaken, IsOrdered}
-use Rattle.osc_mark.specs.Grants.{Grants, AreMarked, left}
+use Rattle.osc_paging.specs.KeptTables.{KeptTables, need}
+use Rattle.osc_tables.specs.Calls.{IsOrdered}
+use Rattle.osc_mark.specs.Grants.{Grants, AreMarked}
 use Rattle.osc_space.specs.Objects.{mark, next_page}
 use Rattle.osc_space.specs.Agree.{HasSpare}
 use Rattle.osc_space.proofs.RefusalLawProofs.{refused_for_want}
 use Rattle.osc_shadow.specs.Parts.{space_of, draft_of, PartsAgree, memory_refusal}
 use Rattle.osc_shadow.specs.Mapping.{CanMap}
 use Rattle.osc_shadow.specs.Pieces.{pieces}
-use Rattle.osc_shadow.proofs.Agreed.{Agreed, agreed, pages_fit, fresh_unmapped, place_takes, place_keeps_taken}
+use Rattle.osc_shadow.proofs.Agreed.{agreed, pages_fit, fresh_unmapped, place_takes, place_keeps_taken}
 
 -- ---- what is not refused
 pub record Enough (t : KeptTables) (g : Grants) (free : List Bool) (frames pages : ℕ) : Type 0 where

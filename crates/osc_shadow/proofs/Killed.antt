@@ -1,7 +1,6 @@
 -- The pages of an object that dies: they are mapped before, and no live object has them after.
-use Rattle.std.proofs.Common.{ℕ, zero, suc, ◌+◌, ◌-◌, ◌*◌, ◌^◌, ◌≡◌, ◌<◌, ◌≤◌, ◌&&◌, ◌||◌, Bool, true, false, not, cond, List, [], ◌∷◌, ◌++◌, Option, Some, None, arith, refl, ap, sym, subst, ◌∙◌, length}
-use Rattle.std.specs.Prelude.{is_some, slice_get}
-use Rattle.std.specs.List.{list_any}
+use Rattle.std.proofs.Common.{ℕ, zero, suc, ◌+◌, ◌≡◌, ◌<◌, ◌≤◌, ◌&&◌, ◌||◌, Bool, true, false, cond, List, [], ◌∷◌, ◌++◌, Option, Some, None, arith, refl, sym, ◌∙◌, length}
+use Rattle.std.specs.Prelude.{is_some}
 use Rattle.std.proofs.lemmas.Bool.Decides.{nat_tests}
 use Rattle.std.proofs.lemmas.List.Folds.{list_any-append}
 use Rattle.osc_word.specs.AddressMap.{is_within, is_shadow}
@@ -10,15 +9,15 @@ use Rattle.osc_word.specs.declared.settings.HeapKind.TheVariants.{Oscar}
 use Rattle.osc_sv39.specs.declared.entries.Mapping.{Mapping}
 use Rattle.osc_paging.specs.KeptTables.{KeptTables, mapping_at}
 use Rattle.osc_tables.specs.Inside.{IsTop}
-use Rattle.osc_mark.specs.Grants.{Grants, AreMarked, lives}
+use Rattle.osc_mark.specs.Grants.{AreMarked}
 use Rattle.osc_space.specs.declared.ObjectFact.{ObjectFact}
-use Rattle.osc_space.specs.Objects.{Seen, fact, has_page, is_live, is_live_page, kill, grant}
+use Rattle.osc_space.specs.Objects.{fact, has_page, is_live, is_live_page, kill, grant}
 use Rattle.osc_space.specs.Share.{Regions}
 use Rattle.osc_space.specs.Space.{Space}
 use Rattle.osc_space.specs.Agree.{SpaceAgrees}
 use Rattle.osc_shadow.specs.Flushing.{ShowsLive}
 use Rattle.osc_shadow.specs.Unmapping.{CanUnmap, AreUnmapped}
-use Rattle.osc_shadow.proofs.Sights.{Granted, granted_fact}
+use Rattle.osc_shadow.proofs.Sights.{granted_fact}
 
 -- ---- a live object's page
 pub live_has : (objects : List ObjectFact) (n page : ℕ) (o : ObjectFact) → fact objects n ≡ Some o → is_live o ≡ true → has_page page o ≡ true → is_live_page objects page ≡ true

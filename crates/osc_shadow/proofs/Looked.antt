@@ -5,7 +5,7 @@ use Rattle.osc_paging.specs.KeptTables.{KeptTables}
 use Rattle.osc_space.specs.declared.ObjectFact.{ObjectFact}
 use Rattle.osc_space.specs.declared.ObjectState.{ObjectState}
 use Rattle.osc_space.specs.declared.ObjectState.TheVariants.{Live, Dead}
-use Rattle.osc_space.specs.declared.HeaderLook.TheVariants.{Words, Zero, DoubleFree, NotAnObject}
+use Rattle.osc_space.specs.declared.HeaderLook.TheVariants.{Zero}
 use Rattle.osc_space.specs.Objects.{Seen, is_live, object_at}
 use Rattle.osc_space.specs.Header.{header_in, look_at, look_by_state}
 use Rattle.osc_shadow.specs.declared.header.SeenObject.{SeenObject}

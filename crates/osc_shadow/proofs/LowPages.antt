@@ -1,10 +1,9 @@
 -- A page of the address map is its own number, in tables of three or four levels.
-use Rattle.std.proofs.Common.{ℕ, suc, ◌+◌, ◌*◌, ◌^◌, ◌≡◌, ◌<◌, ◌≤◌, ◌⊎◌, inl, inr, subst, sym, true, Option, Some, None, arith, refl, lit≤}
+use Rattle.std.proofs.Common.{ℕ, suc, ◌^◌, ◌≡◌, ◌<◌, ◌≤◌, ◌⊎◌, inl, inr, subst, sym, true, Option, Some, None, arith, refl, lit≤}
 use Rattle.std.specs.Prelude.{IsSome}
 use Rattle.std.proofs.lemmas.Bool.Decides.{nat_tests}
 use Rattle.osc_sv39.specs.Walk.{is_canonical, number_of}
-use Rattle.osc_sv39.specs.declared.entries.Mapping.{Mapping}
-use Rattle.osc_paging.specs.KeptTables.{KeptTables, levels_of, mapping_at, mapping_of}
+use Rattle.osc_paging.specs.KeptTables.{KeptTables, mapping_at, mapping_of}
 use Rattle.osc_tables.specs.Inside.{IsTop}
 
 pub at_top : (P : ℕ → Type 0) (top : ℕ) → IsTop top → P 2 → P 3 → P top

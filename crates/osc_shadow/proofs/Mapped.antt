@@ -1,11 +1,9 @@
 -- What a mapping leaves: room for the next one.
-use Rattle.std.proofs.Common.{ℕ, zero, suc, ◌+◌, ◌-◌, ◌*◌, ◌^◌, ◌≡◌, ◌≢◌, ◌<◌, ◌≤◌, ◌==◌, ◌/◌, Bool, true, false, cond, List, [], ◌∷◌, ◌++◌, Option, Some, None, arith, refl, ap, sym, subst, ◌∙◌, length, position, map, set}
+use Rattle.std.proofs.Common.{ℕ, zero, suc, ◌+◌, ◌-◌, ◌*◌, ◌^◌, ◌≡◌, ◌<◌, ◌≤◌, ◌==◌, ◌/◌, Bool, true, false, cond, List, [], ◌∷◌, Option, Some, None, arith, refl, ap, sym, subst, ◌∙◌, length, position}
 use Rattle.std.specs.Prelude.{replicate}
-use Rattle.std.specs.List.{range_with_len}
 use Rattle.std.proofs.lemmas.Bool.Decides.{nat_tests}
 use Rattle.std.proofs.lemmas.List.{length-append}
 use Rattle.std.proofs.lemmas.List.Sums.{sum_by-cons}
-use Rattle.osc_word.specs.declared.job_list.Job.{Job}
 use Rattle.osc_word.specs.JobList.{JobList, spare}
 use Rattle.osc_frames.specs.Free.{free_count}
 use Rattle.osc_frames.proofs.FreeCount.{free_count-set}
@@ -14,11 +12,11 @@ use Rattle.osc_sv39.specs.Walk.{piece, is_canonical, number_of}
 use Rattle.osc_paging.specs.declared.Mapped.{Mapped}
 use Rattle.osc_paging.specs.KeptTables.{KeptTables, levels_of, mapping_at, mapping_of, frame_of, root_of, need}
 use Rattle.osc_paging.specs.TableChanges.{Changed, with_page, linked, link, link_all, leaf_put, map_page}
-use Rattle.osc_paging.specs.TableLaws.{free_frames, MapsPage}
+use Rattle.osc_paging.specs.TableLaws.{free_frames}
 use Rattle.osc_paging.proofs.Kept.{position_passes}
 use Rattle.osc_paging.proofs.Needed.{link_all-pages}
 use Rattle.osc_paging.proofs.TableLawProofs.{mapping_takes_need, need_splits}
-use Rattle.osc_tables.specs.Calls.{HasTaken, IsOpen, changed, left}
+use Rattle.osc_tables.specs.Calls.{HasTaken, changed, left}
 use Rattle.osc_tables.specs.Inside.{IsTop}
 use Rattle.osc_shadow.specs.Mapping.{CanMap}
 use Rattle.osc_shadow.proofs.LowPages.{is_low, low_mapping, range_large, some_of}

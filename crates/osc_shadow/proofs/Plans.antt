@@ -1,12 +1,11 @@
 -- A malloc that is not refused is done.
-use Rattle.std.proofs.Common.{ℕ, ◌≡◌, Bool, Option, Some, None, List, refl, ap, sym, ◌∙◌}
+use Rattle.std.proofs.Common.{ℕ, ◌≡◌, None, ap, sym, ◌∙◌}
 use Rattle.osc_class.specs.declared.Room.{Room}
 use Rattle.osc_class.specs.Rooms.{room_of, shadow_pages}
 use Rattle.osc_slot.specs.Slots.{need as block_need}
 use Rattle.osc_slot.specs.Heap.{next_block}
-use Rattle.osc_word.specs.declared.calls.Answer.{Answer}
 use Rattle.osc_space.specs.Space.{Draft, Outcome, first_reason, unless}
-use Rattle.osc_space.specs.Malloc.{memory_reasons, malloc_reasons, malloc_in, malloc_plan}
+use Rattle.osc_space.specs.Malloc.{memory_reasons, malloc_in, malloc_plan}
 
 pub malloc_done : (n : ℕ) (room : Room) (d : Draft) (made : Outcome) → room ≡ room_of n → first_reason (memory_reasons (block_need d.space.heap.frames d.space.heap.held room) (shadow_pages room) d) ≡ None
     → made ≡ malloc_in n (next_block d.space.heap room) d → made ≡ malloc_plan n d

@@ -1,12 +1,12 @@
 -- The refusals for want of memory, in the numbers that the code has.
-use Rattle.std.proofs.Common.{ℕ, ◌+◌, ◌-◌, ◌≡◌, ◌<◌, ◌≤◌, Bool, Some, None, List, [], arith, refl, ap, sym, ◌∙◌}
+use Rattle.std.proofs.Common.{ℕ, ◌+◌, ◌≡◌, ◌<◌, ◌≤◌, Bool, Some, None, List, [], arith, ap, sym, ◌∙◌}
 use Rattle.osc_word.specs.declared.calls.Answer.TheVariants as answer
 use Rattle.osc_sv39.specs.Walk.{number_of}
 use Rattle.osc_slot.specs.Heap.{empty_heap, free_count}
 use Rattle.osc_paging.specs.KeptTables.{KeptTables, levels_of, need}
 use Rattle.osc_tables.specs.Inside.{IsTop}
 use Rattle.osc_mark.specs.Grants.{Grants, AreMarked, left}
-use Rattle.osc_space.specs.Objects.{mark, next_page}
+use Rattle.osc_space.specs.Objects.{next_page}
 use Rattle.osc_space.proofs.RefusalLawProofs.{refused_for_want}
 use Rattle.osc_shadow.specs.Parts.{draft_of, memory_refusal}
 use Rattle.osc_shadow.proofs.LowPages.{is_low}

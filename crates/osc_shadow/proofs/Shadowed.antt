@@ -1,10 +1,7 @@
 -- One shadow page more of those that map a block's pages.
-use Rattle.std.proofs.Common.{ℕ, zero, suc, ◌+◌, ◌-◌, ◌/◌, ◌≡◌, ◌<◌, List, [], ◌∷◌, Option, Some, None, arith, refl, ap, sym, subst, ◌∙◌, map}
-use Rattle.std.specs.Prelude.{Bool, length, unwrap_or}
-use Rattle.std.specs.List.{range_with_len}
-use Rattle.osc_word.specs.declared.job_list.Job.{Job}
+use Rattle.std.proofs.Common.{ℕ, suc, ◌+◌, ◌-◌, ◌≡◌, ◌<◌, List, ◌∷◌, arith, refl, ap, sym, ◌∙◌}
+use Rattle.std.specs.Prelude.{Bool, unwrap_or}
 use Rattle.osc_word.specs.JobList.{JobList}
-use Rattle.osc_sv39.specs.declared.entries.Mapping.{Mapping}
 use Rattle.osc_sv39.specs.Walk.{number_of}
 use Rattle.osc_slot.specs.declared.HeapPage.{HeapPage}
 use Rattle.osc_slot.specs.Heap.{frame_of}

@@ -1,13 +1,13 @@
 -- What is known of an object that is found at its address.
-use Rattle.std.proofs.Common.{ℕ, ◌+◌, ◌*◌, ◌/◌, ◌%◌, ◌^◌, ◌≡◌, ◌<◌, ◌≤◌, ◌==◌, Bool, true, false, List, Option, Some, None, length, get_or, position, arith, refl, ap, sym, subst, ◌∙◌}
-use Rattle.std.specs.Prelude.{option_map, option_and_then, slice_get}
+use Rattle.std.proofs.Common.{ℕ, ◌+◌, ◌^◌, ◌≡◌, ◌<◌, ◌≤◌, ◌==◌, true, List, Option, Some, None, length, position, arith, refl, ap, subst, ◌∙◌}
+use Rattle.std.specs.Prelude.{option_map, option_and_then}
 use Rattle.std.proofs.lemmas.Bool.Decides.{nat_tests}
 use Rattle.std.proofs.lemmas.Option.{get_or_from_slice_get}
 use Rattle.std.proofs.lemmas.List.Quantifiers.{position-Some}
 use Rattle.osc_word.specs.AddressMap.{first_shadow_page}
 use Rattle.osc_space.specs.declared.ObjectFact.{ObjectFact}
 use Rattle.osc_space.specs.Objects.{Seen, AreGranted, fact, mark, seen_as, object_at}
-use Rattle.osc_mark.specs.Grants.{Grants, AreMarked, number_at}
+use Rattle.osc_mark.specs.Grants.{Grants, AreMarked}
 use Rattle.osc_mark.proofs.ObjectPlaces.{Lies, lies}
 
 pub record Sighted (objects : List ObjectFact) (pointer : ℕ) (s : Seen) : Type 0 where

@@ -1,11 +1,10 @@
 -- One page more is unmapped.
-use Rattle.std.proofs.Common.{ℕ, zero, suc, ◌+◌, ◌-◌, ◌*◌, ◌/◌, ◌%◌, ◌^◌, ◌≡◌, ◌<◌, ◌≤◌, ◌==◌, Bool, true, false, cond, List, [], ◌∷◌, ◌++◌, Option, Some, None, arith, refl, ap, sym, subst, ◌∙◌, length}
-use Rattle.std.specs.Prelude.{is_some, IsSome, nat_lt, nat_le}
+use Rattle.std.proofs.Common.{ℕ, suc, ◌+◌, ◌-◌, ◌/◌, ◌^◌, ◌≡◌, ◌<◌, ◌≤◌, ◌==◌, Bool, true, false, cond, List, [], ◌∷◌, Option, Some, None, arith, refl, ap, sym, subst, ◌∙◌, length}
+use Rattle.std.specs.Prelude.{IsSome}
 use Rattle.std.specs.List.{range_with_len}
 use Rattle.std.proofs.lemmas.Bool.Decides.{nat_tests}
 use Rattle.std.proofs.lemmas.List.{length-append}
 use Rattle.osc_word.specs.AddressMap.{is_within}
-use Rattle.osc_word.specs.declared.job_list.Job.{Job}
 use Rattle.osc_word.specs.JobList.{JobList, spare}
 use Rattle.osc_sv39.specs.Walk.{number_of}
 use Rattle.osc_sv39.specs.declared.entries.Mapping.{Mapping}

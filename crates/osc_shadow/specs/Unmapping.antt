@@ -1,5 +1,5 @@
 -- When the pages of an object can be unmapped. This project's own.
-use Rattle.std.specs.Prelude.{ℕ, ◌+◌, ◌^◌, ◌≡◌, ◌<◌, ◌≤◌, Bool, true, Option, None, is_some, if◌then◌else◌}
+use Rattle.std.specs.Prelude.{ℕ, ◌+◌, ◌^◌, ◌≡◌, ◌<◌, ◌≤◌, true, None, is_some, if◌then◌else◌}
 use Rattle.osc_word.specs.AddressMap.{is_within}
 use Rattle.osc_word.specs.JobList.{JobList, spare}
 use Rattle.osc_paging.specs.KeptTables.{KeptTables, mapping_at}

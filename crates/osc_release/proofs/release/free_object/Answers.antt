@@ -1,8 +1,8 @@
 -- The parts agree, so the object's pages are mapped, and once they are not the dead leaf tables have
 -- no entry.
-use Rattle.std.proofs.Common.{arith, ap, refl, ◌≡◌, ◌+◌, ◌*◌, ◌<◌, ◌≤◌, ◌∙◌, subst, sym, length, List, ℕ, false}
+use Rattle.std.proofs.Common.{arith, ap, ◌≡◌, ◌∙◌, subst, sym, length, List}
 use Rattle.osc_space.specs.declared.ObjectFact.{ObjectFact}
-use Rattle.osc_space.specs.Objects.{has_page, is_live_page, kill}
+use Rattle.osc_space.specs.Objects.{kill}
 use Rattle.osc_shadow.specs.Parts.{space_of}
 use Rattle.osc_shadow.specs.Flushing.{ShowsLive}
 use Rattle.osc_shadow.specs.Sight.{seen_of}
@@ -10,7 +10,7 @@ use Rattle.osc_shadow.proofs.Agreed.{agreed}
 use Rattle.osc_shadow.proofs.Killed.{can_unmap, shows_live, dead_page}
 use Rattle.osc_space.specs.Free.{freed}
 use Rattle.osc_release.specs.Outcomes.{terms}
-use Rattle.osc_release.proofs.Waits.{known_more, length-kill}
+use Rattle.osc_release.proofs.Waits.{known_more}
 use Rattle.osc_release.proofs.Made.{let_waits, flush_made}
 use Rattle.osc_release.proofs.release.free_object.Goals as goal
 

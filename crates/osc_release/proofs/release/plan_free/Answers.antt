@@ -1,9 +1,8 @@
 -- The pointer is that of a live object.
-use Rattle.std.proofs.Common.{◌≡◌, ◌∙◌, sym, ap, Some, None}
-use Rattle.osc_word.specs.declared.calls.Answer.TheVariants.{HeaderDamaged}
+use Rattle.std.proofs.Common.{◌∙◌, Some, None}
 use Rattle.osc_shadow.specs.Parts.{draft_of}
 use Rattle.osc_shadow.specs.Sight.{damage_answer, seen_of}
-use Rattle.osc_shadow.proofs.Looked.{SeenLive, is_seen, seen_live}
+use Rattle.osc_shadow.proofs.Looked.{is_seen, seen_live}
 use Rattle.osc_release.specs.Outcomes.{terms, found_of}
 use Rattle.osc_release.proofs.Made.{free_is}
 use Rattle.osc_release.proofs.release.plan_free.Goals as goal

@@ -1,15 +1,14 @@
 -- The malloc makes the memory with one object.
-use Rattle.std.proofs.Common.{arith, ap, refl, ◌≡◌, ◌∙◌, ◌+◌, Some, List, [], ℕ, length}
+use Rattle.std.proofs.Common.{arith, ap, refl, ◌≡◌, ◌∙◌, ◌+◌, Some, [], length}
 use Rattle.osc_frames.specs.Free.{all_free, least_free, without_frame}
 use Rattle.osc_slot.specs.Heap.{empty_heap}
 use Rattle.osc_paging.specs.KeptTables.{closed}
 use Rattle.osc_paging.specs.TableChanges.{opened}
 use Rattle.osc_mark.specs.Grants.{no_grants}
-use Rattle.osc_word.specs.declared.job_list.Job.{Job}
 use Rattle.osc_word.specs.JobList.{JobList}
 use Rattle.osc_shadow.specs.Outcomes.{draft_now, planned}
 use Rattle.osc_shadow.proofs.Fresh.{fresh_agrees}
-use Rattle.osc_release.proofs.FirstMalloc.{MakesOne, makes_one, starts_fresh}
+use Rattle.osc_release.proofs.FirstMalloc.{makes_one, starts_fresh}
 use Rattle.osc_release.proofs.tests.one_object.Goals as goal
 
 pub plan_malloc-given-requires-clause-agree : goal.plan_malloc-given-requires-clause-agree

@@ -1,5 +1,5 @@
 -- One leaf table more.
-use Rattle.std.proofs.Common.{arith, refl, ◌+◌, Some, None}
+use Rattle.std.proofs.Common.{arith, refl, ◌+◌}
 use Rattle.osc_shadow.proofs.GivenUp.{giving_none, giving_more, giving_all, over_is_low}
 use Rattle.osc_shadow.proofs.leaves.give_leaves_up.Goals as goal
 

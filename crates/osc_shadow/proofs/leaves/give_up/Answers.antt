@@ -1,5 +1,5 @@
 -- A dead leaf table has no entry.
-use Rattle.std.proofs.Common.{◌≡◌, true, sym, ◌∙◌}
+use Rattle.std.proofs.Common.{◌≡◌, true}
 use Rattle.std.specs.Prelude.{is_some}
 use Rattle.osc_paging.specs.KeptTables.{frame_of}
 use Rattle.osc_space.specs.Objects.{leaf_dead}

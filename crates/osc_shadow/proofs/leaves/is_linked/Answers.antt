@@ -1,5 +1,5 @@
 -- The two needs differ by what the leaf table lacks.
-use Rattle.std.proofs.Common.{arith, refl, ◌≡◌, ◌+◌, ◌-◌, ◌%◌}
+use Rattle.std.proofs.Common.{refl, ◌+◌, ◌-◌, ◌%◌}
 use Rattle.osc_shadow.proofs.Linked.{linked_says}
 use Rattle.osc_shadow.proofs.leaves.is_linked.Goals as goal
 

@@ -1,6 +1,6 @@
 -- Each object's pages lie in the shadow range.
 use Rattle.std.proofs.Common.{arith, ◌+◌, get_or}
-use Rattle.osc_shadow.proofs.Sights.{Granted, granted_fact}
+use Rattle.osc_shadow.proofs.Sights.{granted_fact}
 use Rattle.osc_shadow.proofs.Overs.{finds_more}
 use Rattle.osc_shadow.proofs.leaves.next_leaf.Goals as goal
 

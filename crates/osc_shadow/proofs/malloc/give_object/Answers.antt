@@ -1,5 +1,5 @@
 -- The parts agree, so the block can be placed and its pages mapped.
-use Rattle.std.proofs.Common.{arith, ◌≡◌, ◌+◌, ◌≤◌, ◌∙◌, length, subst, sym}
+use Rattle.std.proofs.Common.{◌≡◌, ◌+◌, ◌≤◌, ◌∙◌, length, subst, sym}
 use Rattle.osc_class.specs.Rooms.{block_bytes, shadow_pages}
 use Rattle.osc_class.specs.declared.Room.{Room}
 use Rattle.osc_shadow.specs.Parts.{space_of}

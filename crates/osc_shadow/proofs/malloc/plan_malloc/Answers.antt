@@ -1,5 +1,5 @@
 -- The malloc is not refused.
-use Rattle.std.proofs.Common.{◌≡◌, None, sym, ◌∙◌}
+use Rattle.std.proofs.Common.{◌≡◌, None}
 use Rattle.osc_class.specs.Rooms.{shadow_pages}
 use Rattle.osc_slot.specs.Slots.{need}
 use Rattle.osc_shadow.specs.Parts.{memory_refusal}

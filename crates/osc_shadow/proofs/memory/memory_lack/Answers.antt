@@ -1,5 +1,5 @@
 -- The need of tables is that from the next page on.
-use Rattle.std.proofs.Common.{arith, ◌≡◌, ◌+◌, ◌≤◌, ◌<◌}
+use Rattle.std.proofs.Common.{arith, ◌+◌, ◌≤◌, ◌<◌}
 use Rattle.osc_slot.specs.Heap.{free_count}
 use Rattle.osc_shadow.proofs.Refused.{needed, lacks_frames, lacks_none}
 use Rattle.osc_shadow.proofs.memory.memory_lack.Goals as goal

@@ -1,6 +1,6 @@
 -- One page more.
 use Rattle.std.proofs.Common.{arith, ◌≡◌, ◌+◌, ◌-◌, ◌/◌, ◌∙◌, unwrap_or}
-use Rattle.osc_shadow.proofs.Mapped.{MapsFirst, maps_first, can_map_rest}
+use Rattle.osc_shadow.proofs.Mapped.{maps_first}
 use Rattle.osc_shadow.proofs.Shadowed.{maps_one}
 use Rattle.osc_slot.specs.Heap.{frame_of}
 use Rattle.osc_shadow.proofs.shadows.map_shadows.Goals as goal

@@ -1,8 +1,7 @@
 -- The topmost table has taken the least free frame.
-use Rattle.std.proofs.Common.{arith, ap, sym, ◌≡◌, ◌+◌, ◌∙◌, Some, length}
-use Rattle.std.specs.Prelude.{replicate}
+use Rattle.std.proofs.Common.{ap, ◌≡◌, ◌+◌, ◌∙◌, Some, length}
 use Rattle.osc_slot.specs.Heap.{empty_heap}
-use Rattle.osc_frames.specs.Free.{all_free, least_free, without_frame}
+use Rattle.osc_frames.specs.Free.{all_free, least_free}
 use Rattle.osc_mark.specs.Grants.{no_grants}
 use Rattle.osc_paging.specs.KeptTables.{closed}
 use Rattle.osc_paging.specs.TableChanges.{opened}
