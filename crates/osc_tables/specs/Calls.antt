@@ -9,7 +9,7 @@ use Rattle.osc_paging.specs.declared.TableFrame.{TableFrame}
 use Rattle.osc_paging.specs.declared.Mapped.{Mapped}
 use Rattle.osc_paging.specs.KeptTables.{KeptTables, levels_of, closed, root_of, mapping_of, piece_of, frame_of}
 use Rattle.osc_paging.specs.TableChanges.{Changed}
-use Rattle.osc_tables.specs.Inside.{IsTop, AscendFrom}
+use Rattle.osc_tables.specs.Inside.{IsTop, AscendFrom, InOrder}
 
 abbrev pub changed : KeptTables → List Bool → List Job → Changed
 changed tables free jobs = record { tables = tables; free = free; jobs = jobs }
@@ -44,10 +44,12 @@ pub record IsEmptyLeaf (t : KeptTables) (leaf : ℕ) : Type 0 where
   pub linked : IsSome (frame_of t.tables 0 (number_of t.top leaf))
   pub empty : (i : ℕ) → i < 512 → mapping_of t (leaf * 512 + i) ≡ None
 
--- there are three or four levels, and the mapped pages ascend by their numbers
+-- there are three or four levels, the mapped pages ascend by their numbers, and the tables by level
+-- and number
 pub record IsOrdered (t : KeptTables) : Type 0 where
   pub range : IsTop t.top
   pub ascend : AscendFrom 0 t.pages
+  pub tables : InOrder t.tables
 
 -- the least mapped page at or above another
 pub record IsNextPage (t : KeptTables) (from page : ℕ) : Type 0 where
