@@ -89,7 +89,7 @@ pub fits_caller : (words : List ℕ) (k : KernelState) (c : Calling) (p : Proces
     → ((entries : ℕ → ℕ → ℕ) → PlanFits k.config.heap k.config.batch entries words k.regions (draft_of k p) o) → Silent (draft_of k p) o → FitsCaller words k p o
 fits_caller words k c p o a f s = record { each = f; answer = s.answer; writes = s.writes ∙ ap outs a.waits.jobs }
 
-malloc_fits : (kind : HeapKind) (batch : ℕ) (entries : ℕ → ℕ → ℕ) (words : List ℕ) (regions : Regions) (n : ℕ) (d : Draft)
+pub malloc_fits : (kind : HeapKind) (batch : ℕ) (entries : ℕ → ℕ → ℕ) (words : List ℕ) (regions : Regions) (n : ℕ) (d : Draft)
     → Settled kind batch entries words regions d → PlanFits kind batch entries words regions d (malloc_by kind n d)
 malloc_fits Oscar batch entries words regions n d s = mallocs_fit batch entries words regions n d s
 malloc_fits Plain batch entries words regions n d s = plain_mallocs_fit batch entries words regions n d s
@@ -108,7 +108,7 @@ free_fits Oscar batch entries words regions terms pointer found d h s = frees_fi
 free_fits Plain batch entries words regions terms pointer found d h s = plain_frees_fit batch entries words regions terms.harts pointer d s h.harts
 
 -- a free of 0 changes nothing
-null_fits : (kind : HeapKind) (batch : ℕ) (entries : ℕ → ℕ → ℕ) (words : List ℕ) (regions : Regions) (terms : Terms) (pointer : ℕ) (found : Found) (d : Draft) (null : Bool)
+pub null_fits : (kind : HeapKind) (batch : ℕ) (entries : ℕ → ℕ → ℕ) (words : List ℕ) (regions : Regions) (terms : Terms) (pointer : ℕ) (found : Found) (d : Draft) (null : Bool)
     → HasTerms batch terms → Settled kind batch entries words regions d
     → PlanFits kind batch entries words regions d (cond null (unchanged answers.Nothing d) (free_by kind terms pointer found d))
 null_fits kind batch entries words regions terms pointer found d true h s = unchanged_fits kind batch entries words regions d answers.Nothing s
@@ -122,7 +122,7 @@ free_owed words k c p pointer found a e =
     (λ entries. null_fits k.config.heap k.config.batch entries words k.regions (terms_of k) pointer found (draft_of k p) (pointer == 0) (has_terms words k c a) (settled words k c p entries a e))
     (free_of-silent k.config.heap (terms_of k) pointer found (draft_of k p)))
 
-realloc_fits : (kind : HeapKind) (batch : ℕ) (entries : ℕ → ℕ → ℕ) (words : List ℕ) (regions : Regions) (terms : Terms) (pointer n : ℕ) (found : Found) (d : Draft)
+pub realloc_fits : (kind : HeapKind) (batch : ℕ) (entries : ℕ → ℕ → ℕ) (words : List ℕ) (regions : Regions) (terms : Terms) (pointer n : ℕ) (found : Found) (d : Draft)
     → HasTerms batch terms → Settled kind batch entries words regions d → PlanFits kind batch entries words regions d (realloc_by kind terms pointer n found d)
 realloc_fits Oscar batch entries words regions terms pointer n found d h s = reallocs_fit batch entries words regions terms pointer n found d s h
 realloc_fits Plain batch entries words regions terms pointer n found d h s = plain_reallocs_fit batch entries words regions terms.harts pointer n found.second d s h.harts

@@ -146,7 +146,7 @@ no_more_free free after f k = go (vacant after f) refl (vacant free f) refl
         let within : f < length free = (let l = slice_get_within after f true there in let s = k.size in omega (arith, l, s)) in
         absurd (let z = sym there ∙ k.taken f (taken_there free f within g) in let w : ⊥ = grind (arith, z) in w)
 
-bare_none : (s : Space) (f : ℕ) → IsBare s → among f (frames_held s) ≡ 0
+pub bare_none : (s : Space) (f : ℕ) → IsBare s → among f (frames_held s) ≡ 0
 bare_none s f b =
     let h = held_is f s in
     let t = ap (λ ts. among f (map table_frame_of ts)) b.tables in
@@ -387,7 +387,7 @@ unfolding fork_reasons
 reasons_no_end k p answer e = first_no_end (no_hart k ∷ no_process k ∷ fork_reasons p.space k.free) answer (refl, (refl, (refl, tt))) e
 
 -- where no reason holds, there is a hart, a process and memory
-none_of : (b d : Bool) (x y : Answer) (more : List Reason) → first_reason (reason b x ∷ reason d y ∷ more) ≡ None → (b ≡ false) × (d ≡ false) × (first_reason more ≡ None)
+pub none_of : (b d : Bool) (x y : Answer) (more : List Reason) → first_reason (reason b x ∷ reason d y ∷ more) ≡ None → (b ≡ false) × (d ≡ false) × (first_reason more ≡ None)
 none_of true d x y more e = absurd (let z : ⊥ = grind (arith, e) in z)
 none_of false true x y more e = absurd (let z : ⊥ = grind (arith, e) in z)
 none_of false false x y more e = (refl, refl, e)

@@ -3,3 +3,4 @@ pub mod Records
 pub mod UnderWay
 pub mod KernelFits
 pub mod KeepLaws
+pub mod FollowLaws
