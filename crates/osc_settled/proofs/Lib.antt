@@ -20,3 +20,5 @@ pub mod Forking
 pub mod Following
 pub mod Totals
 pub mod Taking
+pub mod Laying
+pub mod Starting

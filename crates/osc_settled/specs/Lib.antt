@@ -4,3 +4,4 @@ pub mod UnderWay
 pub mod KernelFits
 pub mod KeepLaws
 pub mod FollowLaws
+pub mod StartLaws

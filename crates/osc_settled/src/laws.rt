@@ -2,6 +2,7 @@
 //! proved of the definitions.
 
 ghost use Rattle.osc_settled.specs.KeepLaws.{JobsKeep, OutcomesKeep, PlansKeep, BeginsKeep, FinishKeeps};
+ghost use Rattle.osc_settled.specs.StartLaws.{StartsFit};
 ghost use Rattle.osc_settled.specs.FollowLaws.{WalksFollow, PartsHold, ProcessesApart, FramesAddUp, RefusedKeep, JobsHaveRoom, MallocsTake, SharesTake, FinishGives, EndsGive};
 
 /// A job that is done keeps what holds of the kernel, with the words that it makes.
@@ -69,4 +70,9 @@ pub fn plans_take_need()
 pub fn finish_gives()
     ensures call { FinishGives }
     ensures end { EndsGive }
+{}
+
+/// Where each page of an image can be laid, the machine that opens with it fits: the start.
+pub fn starts_fit()
+    ensures { StartsFit }
 {}
