@@ -22,3 +22,4 @@ pub mod Totals
 pub mod Taking
 pub mod Laying
 pub mod Starting
+pub mod Shadows

@@ -1,19 +1,24 @@
 -- What follows of a kernel that fits, at every moment.
-use Rattle.std.specs.Prelude.{ℕ, ◌+◌, ◌*◌, ◌/◌, ◌≡◌, ◌≢◌, ◌<◌, ◌≤◌, Bool, true, false, Option, Some, None, List, [], length, slice_get, sum_by}
+use Rattle.std.specs.Prelude.{ℕ, ◌+◌, ◌*◌, ◌/◌, ◌≡◌, ◌≢◌, ◌<◌, ◌≤◌, Bool, true, false, Option, Some, None, is_some, option_map, List, [], length, slice_get, sum_by}
 use Rattle.osc_word.specs.declared.settings.Config.{Config}
 use Rattle.osc_word.specs.declared.settings.HeapKind.TheVariants.{Oscar}
 use Rattle.osc_word.specs.declared.calls.Call.{Call}
 use Rattle.osc_word.specs.declared.calls.Call.TheVariants as calls
+use Rattle.osc_word.specs.AddressMap.{is_shadow}
 use Rattle.osc_sv39.specs.declared.entries.Access.{Access}
 use Rattle.osc_sv39.specs.Walk.{walk, frame_allowed}
 use Rattle.osc_class.specs.Rooms.{room_of, shadow_pages}
 use Rattle.osc_slot.specs.declared.Block.{Block}
 use Rattle.osc_slot.specs.Slots.{is_held}
-use Rattle.osc_slot.specs.Heap.{free_count}
+use Rattle.osc_slot.specs.Heap.{frame_of, free_count}
 use Rattle.osc_paging.specs.JobWords.{words_after}
-use Rattle.osc_paging.specs.KeptTables.{levels_of, root_of, mapping_of, need}
-use Rattle.osc_space.specs.Objects.{next_page}
-use Rattle.osc_space.specs.Header.{Found}
+use Rattle.osc_paging.specs.KeptTables.{levels_of, root_of, mapping_at, mapping_of, need}
+use Rattle.osc_space.specs.Objects.{next_page, is_live_page}
+use Rattle.osc_space.specs.Header.{Found, block_of}
+use Rattle.osc_space.specs.declared.ObjectFact.{ObjectFact}
+use Rattle.osc_space.specs.LeafFlags.{read_write_at}
+use Rattle.osc_space.specs.Space.{Space}
+use Rattle.osc_space.specs.Agree.{IsLive}
 use Rattle.osc_space.specs.Malloc.{block_need}
 use Rattle.osc_space.specs.Share.{holders, next_shared_page}
 use Rattle.osc_space.specs.Finish.{finished, ended}
@@ -32,6 +37,7 @@ use Rattle.osc_calls.specs.Plan.{plan_of, commit_shown, plan}
 use Rattle.osc_calls.specs.Finish.{finish}
 use Rattle.osc_settled.specs.Memory.{at_rest, held, one_if}
 use Rattle.osc_settled.specs.Records.{ending}
+use Rattle.osc_settled.specs.UnderWay.{closing_of}
 use Rattle.osc_settled.specs.KernelFits.{KernelFits}
 
 -- ---- words
@@ -52,6 +58,24 @@ pub record RestFits (k : KernelState) : Type 0 where
 
 abbrev pub PartsHold : Type 0
 PartsHold = (words : List ℕ) (k : KernelState) → KernelFits words k → k.under_way ≡ Quiet → RestFits k
+
+-- ---- shadow pages
+-- Each mapped shadow page lies below the mark and is one of a live object, and each page of a live
+-- object maps the frame of its page of the object's block, as the block stands once the call under way
+-- has returned; each live object has a block of its own then.
+pub record ShadowsFit (s after : Space) : Type 0 where
+  pub below : (page : ℕ) → is_shadow page ≡ true → is_some (mapping_at s.tables.pages page) ≡ true → page < next_page s.objects
+  pub live : (page : ℕ) → is_shadow page ≡ true → is_some (mapping_at s.tables.pages page) ≡ is_live_page s.objects page
+  pub held : (object : ℕ) (o : ObjectFact) → IsLive s object o → is_held after.heap.held (block_of o) ≡ true
+  pub own : (a b : ℕ) (o p : ObjectFact) → IsLive s a o → IsLive s b p → o.canon ≡ p.canon → a ≡ b
+  pub mapped : (object k : ℕ) (o : ObjectFact) → IsLive s object o → k < o.pages
+      → mapping_at s.tables.pages (o.first + k) ≡ option_map read_write_at (frame_of after.heap.pages (o.canon / 4096 + k))
+
+abbrev pub ShadowsFollow : Type 0
+ShadowsFollow =
+    (words : List ℕ) (k : KernelState) (pid : ℕ) (p : Process)
+    → KernelFits words k → k.config.heap ≡ Oscar → process_at k pid ≡ Some p → p.status ≡ None
+    → ShadowsFit p.space (finished (closing_of k.under_way pid) (at_rest p.space k.free)).space
 
 -- ---- frames
 -- no frame that one process holds alone is another's, also in the middle of a fork

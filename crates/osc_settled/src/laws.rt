@@ -3,7 +3,7 @@
 
 ghost use Rattle.osc_settled.specs.KeepLaws.{JobsKeep, OutcomesKeep, PlansKeep, BeginsKeep, FinishKeeps};
 ghost use Rattle.osc_settled.specs.StartLaws.{StartsFit};
-ghost use Rattle.osc_settled.specs.FollowLaws.{WalksFollow, PartsHold, ProcessesApart, FramesAddUp, RefusedKeep, JobsHaveRoom, MallocsTake, SharesTake, FinishGives, EndsGive};
+ghost use Rattle.osc_settled.specs.FollowLaws.{WalksFollow, PartsHold, ShadowsFollow, ProcessesApart, FramesAddUp, RefusedKeep, JobsHaveRoom, MallocsTake, SharesTake, FinishGives, EndsGive};
 
 /// A job that is done keeps what holds of the kernel, with the words that it makes.
 pub fn jobs_keep()
@@ -38,6 +38,12 @@ pub fn walks_follow()
 /// While nobody has the kernel the parts of each process that has not ended fit, and no job is pending.
 pub fn parts_hold()
     ensures { PartsHold }
+{}
+
+/// Each mapped shadow page is one of a live object below the mark, and maps the frame of its page of the
+/// object's block.
+pub fn shadows_follow()
+    ensures { ShadowsFollow }
 {}
 
 /// No frame that one process holds alone is another's, also in the middle of a fork.
