@@ -1,20 +1,17 @@
 -- Calls that only answer, and calls on the heap.
-use Rattle.std.proofs.Common.{ℕ, zero, suc, ◌+◌, ◌≡◌, ◌<◌, ◌≤◌, ◌==◌, Bool, true, false, cond, Option, Some, None, unwrap_or, List, [], ◌∷◌, ◌++◌, length, slice_get, arith, refl, ap, sym, ◌∙◌, subst}
+use Rattle.std.proofs.Common.{ℕ, ◌≡◌, ◌≤◌, ◌==◌, Bool, true, false, cond, Some, None, unwrap_or, List, arith, refl, ap, sym, ◌∙◌, subst}
 use Rattle.std.proofs.lemmas.Bool.Decides.{nat_tests}
 use Rattle.osc_word.specs.declared.settings.HeapKind.{HeapKind}
 use Rattle.osc_word.specs.declared.settings.HeapKind.TheVariants.{Oscar, Plain}
-use Rattle.osc_word.specs.declared.job_list.Job.{Job}
 use Rattle.osc_word.specs.declared.calls.Answer.{Answer}
 use Rattle.osc_word.specs.declared.calls.Answer.TheVariants as answers
 use Rattle.osc_paging.specs.Agree.{Agrees}
 use Rattle.osc_paging.specs.JobWords.{words_after}
-use Rattle.osc_space.specs.Space.{Space, Draft, Outcome, Terms, Closing, Keeps, unchanged}
+use Rattle.osc_space.specs.Space.{Draft, Outcome, Terms, unchanged}
 use Rattle.osc_space.specs.Share.{Regions}
 use Rattle.osc_space.specs.Header.{Found}
-use Rattle.osc_space.specs.Malloc.{malloc_plan}
-use Rattle.osc_space.specs.Free.{free_plan}
 use Rattle.osc_parts.specs.Jobs.{AllWriteWhere}
-use Rattle.osc_parts.specs.Settled.{Settled, tables_of, PartsFit}
+use Rattle.osc_parts.specs.Settled.{Settled}
 use Rattle.osc_parts.specs.PlanFits.{PlanFits}
 use Rattle.osc_parts.specs.FreeLaws.{HasTerms}
 use Rattle.osc_parts.proofs.MallocParts.{mallocs_fit}
@@ -30,13 +27,12 @@ use Rattle.osc_calls.specs.declared.JoinLook.{JoinLook}
 use Rattle.osc_calls.specs.declared.JoinLook.TheVariants as joined
 use Rattle.osc_calls.specs.declared.WaitLook.{WaitLook}
 use Rattle.osc_calls.specs.declared.WaitLook.TheVariants as waited
-use Rattle.osc_calls.specs.Kernel.{KernelState, Process, Calling, Nothing, process_at}
-use Rattle.osc_calls.specs.Labels.{out_count}
+use Rattle.osc_calls.specs.Kernel.{KernelState, Process, Calling, process_at}
 use Rattle.osc_calls.specs.Requests.{join_answer, wait_answer}
 use Rattle.osc_calls.specs.Refusals.{draft_of}
-use Rattle.osc_calls.specs.Planned.{Planned, answered, outcome_planned}
+use Rattle.osc_calls.specs.Planned.{answered, outcome_planned}
 use Rattle.osc_calls.specs.HeapPlans.{terms_of, malloc_by, free_by, free_of, realloc_by}
-use Rattle.osc_settled.specs.Memory.{memory_of, entries_in, MemoryFits}
+use Rattle.osc_settled.specs.Memory.{memory_of, entries_in}
 use Rattle.osc_settled.specs.UnderWay.{HasAlone, is_end, record_by}
 use Rattle.osc_settled.specs.KeepLaws.{FitsCaller}
 use Rattle.osc_settled.proofs.Memories.{returns_keeps}

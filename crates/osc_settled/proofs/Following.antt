@@ -1,34 +1,20 @@
 -- What follows of a kernel that fits.
-use Rattle.std.proofs.Common.{ℕ, zero, suc, ◌+◌, ◌*◌, ◌/◌, ◌≡◌, ◌≢◌, ◌<◌, ◌≤◌, ◌==◌, ◌&&◌, Bool, true, false, cond, Option, Some, None, List, [], ◌∷◌, ◌++◌, length, map, slice_get, arith, refl, ap, sym, ◌∙◌, subst}
-use Rattle.std.specs.List.{sum_by, range_with_len}
+use Rattle.std.proofs.Common.{ℕ, ◌≡◌, ◌≤◌, ◌==◌, true, cond, Some, None, List, [], arith, refl, ap, sym, ◌∙◌, subst}
 use Rattle.std.proofs.lemmas.Bool.Decides.{nat_tests}
-use Rattle.std.proofs.lemmas.List.Sums.{sum_by-cons}
-use Rattle.std.proofs.lemmas.Option.{slice_get_within}
-use Rattle.osc_word.specs.declared.calls.Call.{Call}
-use Rattle.osc_word.specs.declared.calls.Call.TheVariants as calls
-use Rattle.osc_sv39.specs.declared.entries.Access.{Access}
-use Rattle.osc_slot.specs.Heap.{free_count}
-use Rattle.osc_paging.specs.KeptTables.{root_of}
 use Rattle.osc_paging.proofs.TableLawProofs.{walk_gives_mapping}
-use Rattle.osc_space.specs.Space.{Space, Draft, Closing, Keeps, first_reason}
-use Rattle.osc_space.specs.Header.{Found}
-use Rattle.osc_space.specs.Share.{Regions, holders, shared_frames}
+use Rattle.osc_space.specs.Space.{Keeps}
 use Rattle.osc_space.specs.Finish.{finished, ended}
-use Rattle.osc_parts.specs.Frames.{one_at, among, vacant, one_where, frames_held, FramesFit, Trades}
-use Rattle.osc_parts.specs.EndLaws.{EndFits}
-use Rattle.osc_parts.proofs.Trading.{held_taken}
+use Rattle.osc_parts.specs.Frames.{Trades}
 use Rattle.osc_parts.proofs.EndParts.{ends_fit}
 use Rattle.osc_calls.proofs.RefusalLawProofs.{refused_calls_keep}
-use Rattle.osc_calls.specs.Kernel.{KernelState, Process, Calling, Committed, UnderWay, Quiet, Waiting, Returning, Effect, Nothing, Clears, Starts, Ends, process_at}
-use Rattle.osc_calls.specs.Requests.{meant}
-use Rattle.osc_calls.specs.Planned.{answered}
-use Rattle.osc_calls.specs.Plan.{plan_of, commit_shown, plan_by, plan_waiting, plan}
+use Rattle.osc_calls.specs.Kernel.{KernelState, Process, Committed, Returning, Effect, Nothing, Clears, Starts, Ends, process_at}
+use Rattle.osc_calls.specs.Plan.{commit_shown, plan_by, plan_waiting, plan}
 use Rattle.osc_calls.specs.Finish.{finish_by, returned, settled, finish}
-use Rattle.osc_settled.specs.Memory.{memory_of, at_rest, held_by, shared_by, held, shared, one_if, Returns, SpaceFits, IsBare, MemoryFits}
-use Rattle.osc_settled.specs.Records.{is_living, ends_by, ending}
+use Rattle.osc_settled.specs.Memory.{memory_of, at_rest, shared_by, shared, SpaceFits}
+use Rattle.osc_settled.specs.Records.{ends_by, ending}
 use Rattle.osc_settled.specs.UnderWay.{closing_of, EffectFits, ReturningFits, UnderWayFits}
 use Rattle.osc_settled.specs.KernelFits.{KernelFits}
-use Rattle.osc_settled.specs.FollowLaws.{WalksFollow, RestFits, PartsHold, ProcessesApart, RefusedKeep, GivesBack, FinishGives, EndsGive}
+use Rattle.osc_settled.specs.FollowLaws.{WalksFollow, PartsHold, ProcessesApart, RefusedKeep, FinishGives, EndsGive}
 use Rattle.osc_settled.proofs.Lists.{one_within}
 use Rattle.osc_settled.proofs.Memories.{returns_keeps}
 use Rattle.osc_settled.proofs.Apart.{holds_apart}
@@ -111,9 +97,10 @@ finish_ends : (k : KernelState) (done : Committed) (p : Process) → k.under_way
     → ((finish k).kernel.free ≡ (ended k.regions p.space k.free).free) × ((finish k).kernel.regions ≡ (ended k.regions p.space k.free).regions)
 unfolding finish
 finish_ends k done p u e h =
-    let freed = freed_at_end k done p done.effect h in
-    (ap (λ x. (finish_by x k).kernel.free) u ∙ ap (λ o. (returned done o k).kernel.free) e ∙ freed.0,
-    ap (λ x. (finish_by x k).kernel.regions) u ∙ ap (λ o. (returned done o k).kernel.regions) e ∙ freed.1)
+    let freed = freed_at_end k done p done.effect h in (
+      ap (λ x. (finish_by x k).kernel.free) u ∙ ap (λ o. (returned done o k).kernel.free) e ∙ freed.0,
+      ap (λ x. (finish_by x k).kernel.regions) u ∙ ap (λ o. (returned done o k).kernel.regions) e ∙ freed.1,
+    )
 
 pub ends_give : EndsGive
 ends_give words k done p f u e h =

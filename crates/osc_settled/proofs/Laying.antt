@@ -1,5 +1,5 @@
 -- Each page that is laid leaves parts that fit.
-use Rattle.std.proofs.Common.{ℕ, zero, suc, ◌+◌, ◌-◌, ◌*◌, ◌/◌, ◌%◌, ◌^◌, ◌≡◌, ◌≢◌, ◌<◌, ◌≤◌, ◌==◌, nat_lt, nat_le, ◌&&◌, ◌||◌, not, Bool, true, false, cond, Option, Some, None, is_some, option_map, List, [], ◌∷◌, ◌++◌, length, map, filter, find, position, replicate, slice_get, slice_set, slice_index, arith, refl, ap, sym, ◌∙◌, subst}
+use Rattle.std.proofs.Common.{ℕ, zero, suc, ◌+◌, ◌*◌, ◌/◌, ◌^◌, ◌≡◌, ◌<◌, ◌≤◌, ◌==◌, nat_lt, nat_le, ◌&&◌, not, Bool, true, false, cond, Option, Some, None, is_some, option_map, List, [], ◌∷◌, length, map, filter, find, position, replicate, slice_get, slice_set, arith, refl, ap, sym, ◌∙◌, subst}
 use Rattle.std.proofs.lemmas.Bool.Decides.{nat_tests}
 use Rattle.std.proofs.lemmas.Option.{slice_get_within}
 use Rattle.std.proofs.lemmas.List.{length-replicate}
@@ -7,23 +7,22 @@ use Rattle.osc_word.specs.declared.settings.Config.{Config}
 use Rattle.osc_word.specs.declared.settings.HeapKind.{HeapKind}
 use Rattle.osc_word.specs.declared.settings.HeapKind.TheVariants.{Oscar, Plain}
 use Rattle.osc_word.specs.Limits.{Limit, limits, is_kept, first_fault}
-use Rattle.osc_word.specs.AddressMap.{is_image_or_stack, is_shared, is_shadow, is_canonical_page, is_in_map}
+use Rattle.osc_word.specs.AddressMap.{is_image_or_stack, is_shared, is_in_map}
 use Rattle.osc_sv39.specs.declared.entries.Mapping.{Mapping}
 use Rattle.osc_slot.specs.Heap.{free_count, empty_heap}
 use Rattle.osc_slot.proofs.Backing.{length-set, least_free, get-set}
 use Rattle.osc_paging.specs.declared.Mapped.{Mapped}
 use Rattle.osc_paging.specs.KeptTables.{KeptTables, closed, mapping_at, frame_of, root_of, need}
-use Rattle.osc_paging.specs.TableChanges.{Changed, link_all, leaf_put, put_leaf, map_page, with_page, opened}
-use Rattle.osc_paging.specs.Agree.{AgreesAfter, ReadsAsLeaf}
+use Rattle.osc_paging.specs.TableChanges.{Changed, link_all, leaf_put, map_page, with_page, opened}
+use Rattle.osc_paging.specs.Agree.{AgreesAfter}
 use Rattle.osc_paging.specs.CopyLaws.{KeepsTaken}
 use Rattle.osc_paging.specs.TableLaws.{MapsPage}
 use Rattle.osc_paging.proofs.Needed.{link_all-pages}
 use Rattle.osc_paging.proofs.Elsewhere.{taking_keeps}
 use Rattle.osc_paging.proofs.TableLawProofs.{mapping_keeps, mapping_takes_need, opening_agrees}
-use Rattle.osc_space.specs.Space.{Space}
 use Rattle.osc_space.specs.LeafFlags.{leaf_of_page}
-use Rattle.osc_space.specs.Fork.{frame_of_page, image_frames}
-use Rattle.osc_space.specs.Share.{Regions, holders, no_regions, shared_pages}
+use Rattle.osc_space.specs.Fork.{frame_of_page}
+use Rattle.osc_space.specs.Share.{holders, no_regions, shared_pages}
 use Rattle.osc_space.specs.Agree.{HeapAgrees}
 use Rattle.osc_parts.specs.Frames.{one_at, among, vacant, one_where, frames_held, Trades}
 use Rattle.osc_parts.specs.Settled.{PartsFit}

@@ -1,10 +1,10 @@
 -- Shadow pages and objects at every moment.
-use Rattle.std.proofs.Common.{ℕ, zero, suc, ◌+◌, ◌/◌, ◌≡◌, ◌<◌, ◌≤◌, ◌==◌, ◌&&◌, ◌||◌, nat_lt, nat_le, Bool, true, false, cond, Option, Some, None, is_some, List, [], ◌∷◌, length, slice_get, arith, refl, ap, sym, ◌∙◌, subst}
+use Rattle.std.proofs.Common.{ℕ, ◌+◌, ◌≡◌, ◌<◌, ◌&&◌, ◌||◌, Bool, true, false, is_some, List, [], ◌∷◌, slice_get, arith, refl, ap, sym, ◌∙◌, subst}
 use Rattle.std.specs.List.{list_any}
 use Rattle.std.proofs.lemmas.Bool.Decides.{nat_tests}
 use Rattle.osc_word.specs.declared.settings.HeapKind.{HeapKind}
-use Rattle.osc_word.specs.declared.settings.HeapKind.TheVariants.{Oscar, Plain}
-use Rattle.osc_word.specs.AddressMap.{is_within, is_shadow, first_shadow_page}
+use Rattle.osc_word.specs.declared.settings.HeapKind.TheVariants.{Oscar}
+use Rattle.osc_word.specs.AddressMap.{is_within, first_shadow_page}
 use Rattle.osc_slot.specs.declared.Block.{Block}
 use Rattle.osc_slot.specs.Heap.{release}
 use Rattle.osc_paging.specs.declared.Mapped.{Mapped}
@@ -15,10 +15,8 @@ use Rattle.osc_space.specs.Objects.{next_page, has_page, is_live, is_live_page}
 use Rattle.osc_space.specs.Agree.{IsLive, IsKept, is_waiting, HeapAgrees, ObjectsAgree}
 use Rattle.osc_space.specs.Finish.{give_blocks, finished}
 use Rattle.osc_space.proofs.ObjectLawProofs.{pages_are_granted_once}
-use Rattle.osc_calls.specs.Kernel.{KernelState, Process}
-use Rattle.osc_settled.specs.Memory.{memory_of, at_rest, SpaceFits}
+use Rattle.osc_settled.specs.Memory.{at_rest}
 use Rattle.osc_settled.specs.UnderWay.{closing_of}
-use Rattle.osc_settled.specs.KernelFits.{KernelFits}
 use Rattle.osc_settled.specs.FollowLaws.{ShadowsFit, ShadowsFollow}
 
 -- ---- a return changes no page and no object

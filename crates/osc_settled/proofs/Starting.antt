@@ -1,5 +1,5 @@
 -- A kernel whose pages were all laid fits, with the words of its image.
-use Rattle.std.proofs.Common.{ℕ, zero, suc, ◌+◌, ◌*◌, ◌/◌, ◌%◌, ◌≡◌, ◌≢◌, ◌<◌, ◌≤◌, Bool, true, false, cond, Option, Some, None, is_none, List, [], ◌∷◌, length, map, replicate, slice_get, slice_set, slice_index, arith, refl, ap, sym, ◌∙◌, subst}
+use Rattle.std.proofs.Common.{ℕ, zero, suc, ◌+◌, ◌*◌, ◌/◌, ◌%◌, ◌≡◌, ◌<◌, Bool, false, Option, Some, None, is_none, List, [], ◌∷◌, length, map, replicate, slice_get, arith, refl, ap, sym, ◌∙◌, subst}
 use Rattle.std.specs.List.{range_with_len}
 use Rattle.std.proofs.lemmas.List.{length-replicate}
 use Rattle.std.proofs.lemmas.List.FromFn.{get_or-map-range_with_len, length-map-range_with_len}
@@ -10,25 +10,24 @@ use Rattle.osc_word.specs.Limits.{first_fault}
 use Rattle.osc_sv39.specs.Entries.{word_of}
 use Rattle.osc_sv39.specs.Walk.{word_at}
 use Rattle.osc_paging.specs.declared.Piece.{Piece}
-use Rattle.osc_paging.specs.KeptTables.{KeptTables, child, kept_word, word_in, piece_of}
+use Rattle.osc_paging.specs.KeptTables.{KeptTables, child, word_in, piece_of}
 use Rattle.osc_paging.specs.TableChanges.{Changed}
 use Rattle.osc_paging.specs.Agree.{Agrees}
 use Rattle.osc_image.specs.Image.{Image}
 use Rattle.osc_space.specs.Space.{Keeps}
 use Rattle.osc_space.specs.Fork.{frame_of_page}
 use Rattle.osc_space.specs.Share.{holders, no_regions}
-use Rattle.osc_parts.specs.Frames.{among, vacant}
-use Rattle.osc_parts.specs.Settled.{PartsFit}
+use Rattle.osc_parts.specs.Frames.{among}
 use Rattle.osc_parts.proofs.Settling.{settled_frames}
 use Rattle.osc_calls.specs.declared.Thread.{Thread}
 use Rattle.osc_calls.specs.declared.HartRecord.{HartRecord}
 use Rattle.osc_calls.specs.declared.HartRecord.TheVariants.{Idle, Runs, Stopped}
 use Rattle.osc_calls.specs.Kernel.{KernelState, Process}
-use Rattle.osc_calls.specs.Open.{OpenPage, image_pages, all_pages, lay_all, rooted, first_records, first_space, first_process, kernel_with, word_by, open_word, open_words, open_kernel}
-use Rattle.osc_settled.specs.Memory.{memory_of, held_by, shared_by, held, shared, one_if, SpaceFits, MemoryFits}
+use Rattle.osc_calls.specs.Open.{image_pages, all_pages, lay_all, rooted, first_records, first_space, first_process, kernel_with, word_by, open_word, open_words, open_kernel}
+use Rattle.osc_settled.specs.Memory.{memory_of, held_by, shared_by, one_if, SpaceFits}
 use Rattle.osc_settled.specs.Records.{RecordsFit}
-use Rattle.osc_settled.specs.KernelFits.{SizesFit, KernelFits}
-use Rattle.osc_settled.specs.StartLaws.{AllCanLay, StartsFit}
+use Rattle.osc_settled.specs.KernelFits.{KernelFits}
+use Rattle.osc_settled.specs.StartLaws.{StartsFit}
 use Rattle.osc_settled.proofs.Lists.{length-put, some_same}
 use Rattle.osc_settled.proofs.Memories.{keeps_returns}
 use Rattle.osc_settled.proofs.Spawning.{records_more}

@@ -1,5 +1,5 @@
 -- How many jobs a plan pushes, and how many frames it takes.
-use Rattle.std.proofs.Common.{ℕ, zero, suc, ◌+◌, ◌-◌, ◌*◌, ◌/◌, ◌%◌, ◌≡◌, ◌<◌, ◌≤◌, ◌==◌, nat_lt, nat_le, min, max, Bool, true, false, cond, Option, Some, None, is_none, unwrap_or, List, [], ◌∷◌, ◌++◌, length, slice_get, arith, refl, ap, sym, ◌∙◌, subst}
+use Rattle.std.proofs.Common.{ℕ, zero, suc, ◌+◌, ◌-◌, ◌*◌, ◌/◌, ◌%◌, ◌≡◌, ◌≤◌, ◌==◌, nat_lt, nat_le, min, max, Bool, true, false, cond, Option, Some, None, is_none, unwrap_or, List, [], ◌∷◌, ◌++◌, length, arith, refl, ap, sym, ◌∙◌, subst}
 use Rattle.std.specs.List.{range_with_len, flat_map}
 use Rattle.std.proofs.lemmas.List.{length-append}
 use Rattle.std.proofs.lemmas.List.Concat.{flat_map-cons}
@@ -17,24 +17,23 @@ use Rattle.osc_paging.specs.KeptTables.{KeptTables, need}
 use Rattle.osc_space.specs.Space.{Draft, Outcome, first_reason}
 use Rattle.osc_space.specs.Objects.{next_page}
 use Rattle.osc_space.specs.Header.{Found}
-use Rattle.osc_space.specs.Malloc.{block_need, malloc_reasons, malloc_plan}
-use Rattle.osc_space.specs.Share.{Regions, next_shared_page, share_plan, share_reasons, join}
+use Rattle.osc_space.specs.Malloc.{block_need}
+use Rattle.osc_space.specs.Share.{Regions, next_shared_page, share_plan}
 use Rattle.osc_space.specs.Fork.{fork_plan, fork_reasons}
 use Rattle.osc_parts.specs.Settled.{Settled}
 use Rattle.osc_parts.specs.PlanFits.{PlanFits}
 use Rattle.osc_parts.proofs.MallocParts.{mallocs_take_need}
 use Rattle.osc_parts.proofs.ShareParts.{shares_fit}
 use Rattle.osc_parts.proofs.ForkParts.{forks_fit}
-use Rattle.osc_calls.specs.Kernel.{KernelState, Process, Calling, UnderWay, Waiting, process_at, is_last, idle_hart}
+use Rattle.osc_calls.specs.Kernel.{KernelState, Process, Calling, Waiting, process_at, is_last, idle_hart}
 use Rattle.osc_calls.specs.Requests.{meant}
-use Rattle.osc_calls.specs.Refusals.{draft_of, sharing_of, refusal_of, refusal, malloc_wants}
-use Rattle.osc_calls.specs.Planned.{Planned, planned_unless, outcome_planned}
+use Rattle.osc_calls.specs.Refusals.{draft_of, sharing_of, refusal_of, malloc_wants}
+use Rattle.osc_calls.specs.Planned.{Planned, planned_unless}
 use Rattle.osc_calls.specs.HeapPlans.{terms_of, malloc_by, free_of, realloc_by}
 use Rattle.osc_calls.specs.WritePlan.{write_count, load_frame, first_unreadable, out_job, word_job, out_jobs, write_by}
 use Rattle.osc_calls.specs.ProcessPlans.{new_hart, value_left, done_by, fork_done, spawn_done, share_done}
 use Rattle.osc_calls.specs.Plan.{plan_meant, plan_of, committed, plan_by, plan_waiting, plan}
 use Rattle.osc_settled.specs.Records.{is_living}
-use Rattle.osc_settled.specs.KernelFits.{KernelFits}
 use Rattle.osc_settled.specs.FollowLaws.{most_jobs, JobsHaveRoom, MallocsTake, SharesTake}
 use Rattle.osc_settled.proofs.Outcomes.{Asks, asks, caller_lives}
 use Rattle.osc_settled.proofs.Answering.{settled, has_terms, malloc_fits, null_fits, realloc_fits}
@@ -111,9 +110,9 @@ few words found c p k (calls.Realloc pointer n) a e =
 few words found c p k calls.Fork a e =
     unless-few (refusal_of calls.Fork p k) k (fork_done c p k) (8 * k.config.frames + 64) a.waits.jobs
     (λ r. (let n = none_of (is_none (idle_hart k.records)) (nat_le k.config.processes (length k.processes)) answers.NoHart answers.NoProcess (fork_reasons p.space k.free) r in
-        let f = forks_fit k.config.heap k.config.batch (λ x y. 0) words k.regions (draft_of k p) (settled words k c p (λ x y. 0) a e) n.2 in
-        let l = pushed-few k.jobs (k.jobs ++ (fork_plan p.space k.free).jobs) f.pushes.more (8 * length k.free + 64) a.waits.jobs f.pushes.is f.pushes.few in
-        let s = a.sizes.free in omega (arith, l, s)))
+    let f = forks_fit k.config.heap k.config.batch (λ x y. 0) words k.regions (draft_of k p) (settled words k c p (λ x y. 0) a e) n.2 in
+    let l = pushed-few k.jobs (k.jobs ++ (fork_plan p.space k.free).jobs) f.pushes.more (8 * length k.free + 64) a.waits.jobs f.pushes.is f.pushes.few in
+    let s = a.sizes.free in omega (arith, l, s)))
 few words found c p k (calls.Spawn pc sp arg) a e =
     unless-few (refusal_of (calls.Spawn pc sp arg) p k) k (spawn_done c p pc sp arg k) (8 * k.config.frames + 64) a.waits.jobs
     (λ r. pushed-few k.jobs (k.jobs ++ Tell (new_hart k) ∷ []) (Tell (new_hart k) ∷ []) (8 * k.config.frames + 64) a.waits.jobs refl (omega arith))
@@ -123,8 +122,8 @@ few words found c p k (calls.Done value) a e =
 few words found c p k (calls.Share n) a e =
     unless-few (refusal_of (calls.Share n) p k) k (share_done c p n k) (8 * k.config.frames + 64) a.waits.jobs
     (λ r. (let f = shares_fit k.config.heap k.config.batch (λ x y. 0) words k.regions n (draft_of k p) (settled words k c p (λ x y. 0) a e) r in
-        let l = pushed-few k.jobs (share_plan n (sharing_of k p)).jobs f.pushes.more (8 * length k.free + 64) a.waits.jobs f.pushes.is f.pushes.few in
-        let s = a.sizes.free in omega (arith, l, s)))
+    let l = pushed-few k.jobs (share_plan n (sharing_of k p)).jobs f.pushes.more (8 * length k.free + 64) a.waits.jobs f.pushes.is f.pushes.few in
+    let s = a.sizes.free in omega (arith, l, s)))
 few words found c p k (calls.Wait number) a e = none_few k.jobs (8 * k.config.frames + 64) a.waits.jobs
 few words found c p k (calls.Unknown number) a e = none_few k.jobs (8 * k.config.frames + 64) a.waits.jobs
 few words found c p k (calls.End fault) a e = none_few k.jobs (8 * k.config.frames + 64) a.waits.jobs

@@ -1,6 +1,6 @@
 -- Free frames, frames held alone and frames of regions are all frames of the machine.
-use Rattle.std.proofs.Common.{ℕ, zero, suc, ◌+◌, ◌*◌, ◌≡◌, ◌≢◌, ◌<◌, ◌≤◌, ◌==◌, Bool, true, false, cond, Option, Some, None, List, [], ◌∷◌, ◌++◌, length, map, filter, slice_get, slice_index, arith, refl, ap, sym, ◌∙◌, subst}
-use Rattle.std.specs.List.{sum_by, count_by}
+use Rattle.std.proofs.Common.{ℕ, zero, suc, ◌+◌, ◌≡◌, ◌<◌, Bool, true, false, cond, Option, Some, None, List, [], ◌∷◌, length, slice_get, arith, refl, sym, ◌∙◌, subst}
+use Rattle.std.specs.List.{sum_by}
 use Rattle.std.proofs.lemmas.Bool.Decides.{nat_tests}
 use Rattle.std.proofs.lemmas.List.Sums.{sum_by-cons}
 use Rattle.std.proofs.lemmas.Option.{slice_get_within}
@@ -8,10 +8,9 @@ use Rattle.osc_slot.specs.Heap.{free_count}
 use Rattle.osc_space.specs.Share.{Regions, holders}
 use Rattle.osc_parts.specs.Frames.{one_at, among, vacant, one_where, frames_held}
 use Rattle.osc_parts.proofs.Trading.{held_taken}
-use Rattle.osc_calls.specs.Kernel.{KernelState, Process}
-use Rattle.osc_settled.specs.Memory.{held_by, held, one_if, IsBare}
-use Rattle.osc_settled.specs.KernelFits.{KernelFits}
-use Rattle.osc_settled.specs.FollowLaws.{held_count, region_count, FramesAddUp}
+use Rattle.osc_calls.specs.Kernel.{Process}
+use Rattle.osc_settled.specs.Memory.{held_by, held, one_if}
+use Rattle.osc_settled.specs.FollowLaws.{held_count, FramesAddUp}
 use Rattle.osc_settled.proofs.Forking.{bare_none}
 
 -- ---- sums over so many numbers from 0 on

@@ -1,5 +1,5 @@
 -- What follows of a kernel that fits, at every moment.
-use Rattle.std.specs.Prelude.{ℕ, ◌+◌, ◌*◌, ◌/◌, ◌≡◌, ◌≢◌, ◌<◌, ◌≤◌, Bool, true, false, Option, Some, None, is_some, option_map, List, [], length, slice_get, sum_by}
+use Rattle.std.specs.Prelude.{ℕ, ◌+◌, ◌*◌, ◌/◌, ◌≡◌, ◌≢◌, ◌<◌, ◌≤◌, true, Some, None, is_some, option_map, List, [], length, sum_by}
 use Rattle.osc_word.specs.declared.settings.Config.{Config}
 use Rattle.osc_word.specs.declared.settings.HeapKind.TheVariants.{Oscar}
 use Rattle.osc_word.specs.declared.calls.Call.{Call}
@@ -20,14 +20,14 @@ use Rattle.osc_space.specs.LeafFlags.{read_write_at}
 use Rattle.osc_space.specs.Space.{Space}
 use Rattle.osc_space.specs.Agree.{IsLive}
 use Rattle.osc_space.specs.Malloc.{block_need}
-use Rattle.osc_space.specs.Share.{holders, next_shared_page}
+use Rattle.osc_space.specs.Share.{next_shared_page}
 use Rattle.osc_space.specs.Finish.{finished, ended}
-use Rattle.osc_parts.specs.Frames.{vacant, frames_held, Trades}
+use Rattle.osc_parts.specs.Frames.{frames_held, Trades}
 use Rattle.osc_parts.specs.Settled.{PartsFit}
 use Rattle.osc_parts.specs.OthersFit.{HoldsApart}
 use Rattle.osc_parts.specs.EndLaws.{EndFits}
 use Rattle.osc_parts.specs.PlanFits.{gives_block}
-use Rattle.osc_calls.specs.Kernel.{KernelState, Process, Calling, Committed, UnderWay, Quiet, Waiting, Returning, process_at}
+use Rattle.osc_calls.specs.Kernel.{KernelState, Process, Calling, Committed, Quiet, Waiting, Returning, process_at}
 use Rattle.osc_calls.specs.JobDone.{entries}
 use Rattle.osc_calls.specs.Requests.{meant}
 use Rattle.osc_calls.specs.Refusals.{draft_of, refusal}
@@ -35,7 +35,7 @@ use Rattle.osc_calls.specs.Planned.{answered}
 use Rattle.osc_calls.specs.CallLaws.{is_denied}
 use Rattle.osc_calls.specs.Plan.{plan_of, commit_shown, plan}
 use Rattle.osc_calls.specs.Finish.{finish}
-use Rattle.osc_settled.specs.Memory.{at_rest, held, one_if}
+use Rattle.osc_settled.specs.Memory.{at_rest, one_if}
 use Rattle.osc_settled.specs.Records.{ending}
 use Rattle.osc_settled.specs.UnderWay.{closing_of}
 use Rattle.osc_settled.specs.KernelFits.{KernelFits}

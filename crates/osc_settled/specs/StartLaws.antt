@@ -1,5 +1,5 @@
 -- The law of the start: a kernel whose pages were all laid fits, with the words of its image.
-use Rattle.std.specs.Prelude.{ℕ, ◌+◌, ◌≡◌, ◌<◌, true, None, List, [], ◌∷◌}
+use Rattle.std.specs.Prelude.{ℕ, ◌≡◌, ◌<◌, true, None, List, [], ◌∷◌}
 use Rattle.osc_word.specs.declared.settings.Config.{Config}
 use Rattle.osc_word.specs.Limits.{first_fault}
 use Rattle.osc_word.specs.AddressMap.{is_image_or_stack}
