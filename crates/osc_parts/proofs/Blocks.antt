@@ -1,21 +1,19 @@
 -- Where a block's pages and jobs are: its pages have frames of the heap, and its jobs write there.
-use Rattle.std.proofs.Common.{ℕ, zero, suc, ◌+◌, ◌-◌, ◌*◌, ◌/◌, ◌%◌, ◌≡◌, ◌≢◌, ◌<◌, ◌≤◌, ◌==◌, nat_lt, nat_le, ◌&&◌, ◌||◌, Bool, true, false, not, cond, Option, Some, None, is_some, unwrap_or, List, [], ◌∷◌, ◌++◌, length, map, filter, slice_get, arith, refl, ap, sym, ◌∙◌, subst, ◌⊎◌, inl, inr}
-use Rattle.std.specs.List.{list_any, range_with_len}
+use Rattle.std.proofs.Common.{ℕ, zero, suc, ◌+◌, ◌*◌, ◌/◌, ◌%◌, ◌≡◌, ◌≢◌, ◌<◌, ◌≤◌, ◌==◌, nat_le, Bool, true, false, cond, Option, Some, None, is_some, unwrap_or, List, [], ◌∷◌, ◌++◌, length, map, slice_get, arith, refl, ap, sym, ◌∙◌, subst, inl, inr}
 use Rattle.std.proofs.lemmas.Bool.Decides.{nat_tests}
 use Rattle.std.proofs.lemmas.List.Quantifiers.{position-Some}
 use Rattle.osc_word.specs.declared.job_list.Job.{Job}
 use Rattle.osc_word.specs.declared.job_list.Job.TheVariants.{PutWord, ZeroWords, CopyWords, CopyPart, CopyTable, ClearBox, Tell, ToOut}
-use Rattle.osc_sv39.specs.declared.entries.Mapping.{Mapping}
 use Rattle.osc_sv39.proofs.EntriesBack.{leaves_read_back}
 use Rattle.osc_class.specs.declared.Room.{Room}
 use Rattle.osc_class.specs.declared.Room.TheVariants.{Small, Pages}
-use Rattle.osc_class.specs.Rooms.{room_of, class_of, class_or_pages, IsRoom, sizes, size_of, block_bytes, shadow_pages}
+use Rattle.osc_class.specs.Rooms.{room_of, class_of, class_or_pages, IsRoom, sizes, block_bytes, shadow_pages}
 use Rattle.osc_slot.specs.declared.Block.{Block}
 use Rattle.osc_slot.specs.declared.HeapPage.{HeapPage}
-use Rattle.osc_slot.specs.Areas.{slots_in, start_of, page_of, block_at_slot, offset_in}
+use Rattle.osc_slot.specs.Areas.{start_of, block_at_slot, offset_in}
 use Rattle.osc_slot.specs.Slots.{is_on}
 use Rattle.osc_slot.specs.Heap.{frame_of}
-use Rattle.osc_slot.proofs.Bounds.{bytes_within, start_page, pages_positive}
+use Rattle.osc_slot.proofs.Bounds.{bytes_within}
 use Rattle.osc_paging.specs.declared.TableFrame.{TableFrame}
 use Rattle.osc_paging.specs.KeptTables.{KeptTables, piece_of}
 use Rattle.osc_paging.specs.Agree.{ReadsAsLeaf}
@@ -23,7 +21,7 @@ use Rattle.osc_paging.specs.CopyLaws.{IsNoTable, WritesElsewhere, AllElsewhere}
 use Rattle.osc_space.specs.LeafFlags.{read_write, read_write_at}
 use Rattle.osc_space.specs.Fork.{table_frame_of, heap_frame_of}
 use Rattle.osc_space.specs.BlockWords.{Stretch, stretches, words_in, block_word, frame_at, mappings_of, block_mappings, zero_jobs, zero_block, header_jobs, size_job, part_job, copy_jobs, trim_jobs, whole_end, words_end}
-use Rattle.osc_space.specs.WordLaws.{AreCut, LiesInFrames, IsFrameOf, AllWriteIn, StayInFrames, BlockJobsStay}
+use Rattle.osc_space.specs.WordLaws.{AreCut, LiesInFrames, IsFrameOf, AllWriteIn, StayInFrames}
 use Rattle.osc_space.proofs.WordLawProofs.{stretches_cut, block_jobs_stay, no_piece_crosses}
 use Rattle.osc_parts.specs.Frames.{among}
 use Rattle.osc_parts.specs.Jobs.{WritesWhere, AllWriteWhere}

@@ -1,18 +1,18 @@
 -- How often a frame stands in the lists of a process's parts.
-use Rattle.std.proofs.Common.{ℕ, zero, suc, ◌+◌, ◌≡◌, ◌≢◌, ◌<◌, ◌≤◌, ◌==◌, nat_lt, ◌&&◌, ◌||◌, Bool, true, false, not, cond, Option, Some, None, is_some, List, [], ◌∷◌, ◌++◌, length, map, filter, slice_get, slice_set, arith, refl, ap, sym, ◌∙◌, subst}
+use Rattle.std.proofs.Common.{ℕ, ◌+◌, ◌≡◌, ◌<◌, ◌≤◌, ◌==◌, nat_lt, ◌&&◌, Bool, true, false, not, cond, Some, None, is_some, List, [], ◌∷◌, ◌++◌, length, map, filter, slice_get, slice_set, arith, refl, ap, sym, ◌∙◌, subst}
 use Rattle.std.specs.List.{list_any}
 use Rattle.std.proofs.lemmas.Bool.Decides.{nat_tests}
 use Rattle.osc_sv39.specs.declared.entries.Mapping.{Mapping}
 use Rattle.osc_slot.specs.declared.HeapPage.{HeapPage}
 use Rattle.osc_slot.specs.Ordered.{insert_by}
-use Rattle.osc_slot.specs.Heap.{AreTaken, give_back}
+use Rattle.osc_slot.specs.Heap.{give_back}
 use Rattle.osc_slot.proofs.Backing.{get-set, length-set}
 use Rattle.osc_paging.specs.declared.TableFrame.{TableFrame}
 use Rattle.osc_paging.specs.declared.Mapped.{Mapped}
-use Rattle.osc_paging.specs.KeptTables.{frame_of, piece_of, is_piece}
+use Rattle.osc_paging.specs.KeptTables.{frame_of, is_piece}
 use Rattle.osc_paging.specs.TableChanges.{with_table, without_table, with_page, without_page, frames_given}
 use Rattle.osc_paging.specs.Agree.{Apart}
-use Rattle.osc_space.specs.Fork.{table_frame_of, heap_frame_of, frame_of_page, set_free}
+use Rattle.osc_space.specs.Fork.{table_frame_of, heap_frame_of, set_free}
 use Rattle.osc_space.specs.Agree.{AreApart, AllTaken}
 use Rattle.osc_parts.specs.Frames.{one_at, among, one_where, vacant}
 

@@ -1,7 +1,6 @@
 -- The end of a process: which frames are free then.
-use Rattle.std.proofs.Common.{ℕ, zero, suc, ◌+◌, ◌-◌, ◌*◌, ◌≡◌, ◌≢◌, ◌<◌, ◌≤◌, ◌==◌, nat_lt, ◌&&◌, ◌||◌, Bool, true, false, not, cond, Option, Some, None, is_some, List, [], ◌∷◌, ◌++◌, length, map, filter, slice_get, slice_set, arith, refl, ap, sym, ◌∙◌, subst}
+use Rattle.std.proofs.Common.{ℕ, zero, suc, ◌+◌, ◌-◌, ◌≡◌, ◌<◌, ◌≤◌, ◌==◌, nat_lt, ◌&&◌, Bool, true, false, cond, Some, List, [], ◌∷◌, ◌++◌, length, map, filter, slice_get, slice_set, arith, refl, ap, sym, ◌∙◌}
 use Rattle.std.specs.Prelude.{slice_index}
-use Rattle.std.specs.List.{list_any}
 use Rattle.std.proofs.lemmas.Bool.Decides.{nat_tests}
 use Rattle.std.proofs.lemmas.List.{map-append}
 use Rattle.osc_word.specs.declared.settings.HeapKind.{HeapKind}
@@ -10,21 +9,19 @@ use Rattle.osc_sv39.specs.declared.entries.Mapping.{Mapping}
 use Rattle.osc_slot.specs.Heap.{clear, give_back}
 use Rattle.osc_slot.proofs.Backing.{length-set, length-give_back}
 use Rattle.osc_paging.specs.declared.Mapped.{Mapped}
-use Rattle.osc_paging.specs.declared.TableFrame.{TableFrame}
-use Rattle.osc_paging.specs.KeptTables.{KeptTables, mapping_at}
+use Rattle.osc_paging.specs.KeptTables.{mapping_at}
 use Rattle.osc_paging.specs.TableChanges.{frames_given, emptied}
-use Rattle.osc_paging.specs.Agree.{Agrees}
 use Rattle.osc_paging.proofs.Kept.{length-frames_given}
 use Rattle.osc_space.specs.Space.{Space}
 use Rattle.osc_space.specs.Fork.{table_frame_of, heap_frame_of, frame_of_page, image_frames, set_free}
-use Rattle.osc_space.specs.Share.{Regions, RegionsAndFree, holders, drop_frame, let_regions_go, leave, shared_pages, shared_frames}
-use Rattle.osc_space.specs.Finish.{Ended, ended_space, ended}
-use Rattle.osc_space.specs.Agree.{AreApart, AllTaken, RegionsAgree, SpaceAgrees}
+use Rattle.osc_space.specs.Share.{Regions, RegionsAndFree, holders, drop_frame, let_regions_go, leave, shared_frames}
+use Rattle.osc_space.specs.Finish.{ended}
+use Rattle.osc_space.specs.Agree.{AreApart, AllTaken}
 use Rattle.osc_parts.specs.Frames.{one_at, among, vacant, one_where, frames_held, frames_mapped, FramesFit}
 use Rattle.osc_parts.specs.Settled.{PartsFit}
 use Rattle.osc_parts.specs.OthersFit.{HoldsApart}
 use Rattle.osc_parts.specs.EndLaws.{AreHeld, dropped, EndFits, EndsFit}
-use Rattle.osc_parts.proofs.Counts.{among-append, member_counts, apart_once, once_apart, taken_at, all_taken, taken_but, vacant_give, give_back_vacant, frames_given_vacant, given_length}
+use Rattle.osc_parts.proofs.Counts.{among-append, apart_once, once_apart, taken_at, all_taken, taken_but, vacant_give, give_back_vacant, frames_given_vacant, given_length}
 use Rattle.osc_parts.proofs.Trading.{held_is, held_once, held_taken, fits, there, vacant_there, quiet_taken}
 use Rattle.osc_parts.proofs.Blocks.{taken_small}
 use Rattle.osc_parts.proofs.Settling.{settled_frames}

@@ -1,13 +1,12 @@
 -- A flush: dead leaf tables are given up, and every box is cleared.
-use Rattle.std.proofs.Common.{ℕ, zero, suc, ◌+◌, ◌-◌, ◌*◌, ◌/◌, ◌%◌, ◌≡◌, ◌≢◌, ◌<◌, ◌≤◌, ◌==◌, nat_lt, nat_le, ◌&&◌, ◌||◌, Bool, true, false, not, cond, Option, Some, None, is_some, List, [], ◌∷◌, ◌++◌, length, map, filter, slice_get, arith, refl, ap, sym, ◌∙◌, subst}
+use Rattle.std.proofs.Common.{ℕ, zero, suc, ◌+◌, ◌*◌, ◌/◌, ◌%◌, ◌≡◌, ◌<◌, ◌≤◌, ◌==◌, ◌&&◌, ◌||◌, Bool, true, false, cond, Option, Some, None, List, [], ◌∷◌, length, map, filter, arith, refl, ap, sym, ◌∙◌}
 use Rattle.std.specs.List.{list_any, range_with_len}
 use Rattle.std.proofs.lemmas.Bool.Decides.{nat_tests}
 use Rattle.std.proofs.lemmas.List.FromFn.{length-map-range_with_len}
-use Rattle.osc_word.specs.declared.job_list.Job.{Job}
 use Rattle.osc_word.specs.declared.job_list.Job.TheVariants.{ClearBox}
 use Rattle.osc_word.specs.AddressMap.{first_shadow_page, is_shadow}
 use Rattle.osc_paging.specs.declared.TableFrame.{TableFrame}
-use Rattle.osc_paging.specs.KeptTables.{KeptTables, frame_of, mapping_at, root_of}
+use Rattle.osc_paging.specs.KeptTables.{KeptTables, frame_of, mapping_at}
 use Rattle.osc_paging.specs.TableChanges.{Changed, put_job, unlinked, reclaim}
 use Rattle.osc_paging.specs.Agree.{Apart, AgreesAfter}
 use Rattle.osc_paging.specs.CopyLaws.{AllElsewhere}
@@ -15,15 +14,14 @@ use Rattle.osc_paging.proofs.TableLawProofs.{reclaiming_keeps}
 use Rattle.osc_paging.proofs.Others.{work_elsewhere_keeps}
 use Rattle.osc_space.specs.declared.ObjectFact.{ObjectFact}
 use Rattle.osc_space.specs.Objects.{AreGranted, mark, is_live_page, leaf_dead, is_in_leaf}
-use Rattle.osc_space.specs.Fork.{table_frame_of}
 use Rattle.osc_space.specs.Space.{Space, Draft}
 use Rattle.osc_space.specs.Free.{clear_jobs, linked_leaves, dead_leaves, reclaim_all, flush}
 use Rattle.osc_space.proofs.ObjectLawProofs.{dead_leaves_are_dead}
-use Rattle.osc_parts.specs.Frames.{among, vacant, frames_held, FramesFit, Trades}
+use Rattle.osc_parts.specs.Frames.{vacant, FramesFit, Trades}
 use Rattle.osc_parts.specs.Settled.{tables_of, shadows_end}
 use Rattle.osc_parts.specs.Jobs.{AllWriteWhere, Pushed, IsOwn}
 use Rattle.osc_parts.proofs.Trading.{over, held_is, reclaim-trades, reclaim_all-trades}
-use Rattle.osc_parts.proofs.Shapes.{SameShape, Reclaims, unlinked-reclaims, reclaim_all-shape}
+use Rattle.osc_parts.proofs.Shapes.{SameShape, unlinked-reclaims, reclaim_all-shape}
 use Rattle.osc_parts.proofs.JobCounts.{IsOf, found_counts, pushed_none, pushed_both, pushed_weaker, length-mapped}
 use Rattle.osc_parts.proofs.Waiting.{is_in}
 use Rattle.osc_parts.proofs.Giving.{tables_within}

@@ -1,22 +1,20 @@
 -- A fork that is not refused: the parts of the child, the parent and the others.
-use Rattle.std.proofs.Common.{ℕ, zero, suc, ◌+◌, ◌-◌, ◌*◌, ◌/◌, ◌≡◌, ◌≢◌, ◌<◌, ◌≤◌, ◌==◌, nat_lt, nat_le, ◌&&◌, ◌||◌, Bool, true, false, not, cond, Option, Some, None, is_some, option_map, List, [], ◌∷◌, ◌++◌, length, map, filter, zip, slice_get, arith, refl, ap, sym, ◌∙◌, subst}
+use Rattle.std.proofs.Common.{ℕ, zero, suc, ◌+◌, ◌*◌, ◌/◌, ◌≡◌, ◌<◌, ◌≤◌, ◌==◌, nat_lt, Bool, true, false, cond, Option, Some, None, is_some, option_map, List, [], ◌∷◌, ◌++◌, length, map, filter, zip, slice_get, arith, refl, ap, sym, ◌∙◌, subst}
 use Rattle.std.specs.Prelude.{slice_index}
-use Rattle.std.specs.List.{list_any}
 use Rattle.std.proofs.lemmas.Bool.Decides.{nat_tests}
 use Rattle.std.proofs.lemmas.List.{map-append}
 use Rattle.osc_word.specs.declared.settings.HeapKind.{HeapKind}
 use Rattle.osc_word.specs.declared.settings.HeapKind.TheVariants.{Oscar, Plain}
 use Rattle.osc_word.specs.AddressMap.{is_image_or_stack, is_shared}
 use Rattle.osc_word.specs.declared.job_list.Job.{Job}
-use Rattle.osc_sv39.specs.declared.entries.Mapping.{Mapping}
 use Rattle.osc_slot.specs.declared.HeapPage.{HeapPage}
-use Rattle.osc_slot.specs.Heap.{Heap, IsHeap, HaveFrames, has_frame, rename, copy, frame_of}
+use Rattle.osc_slot.specs.Heap.{IsHeap, HaveFrames, has_frame, rename, copy, frame_of}
 use Rattle.osc_slot.proofs.Backing.{free_count-le}
 use Rattle.osc_slot.proofs.Copying.{frame_of-rename, copy_is_heap}
 use Rattle.osc_paging.specs.declared.Mapped.{Mapped}
 use Rattle.osc_paging.specs.declared.TableFrame.{TableFrame}
 use Rattle.osc_paging.specs.JobWords.{words_after}
-use Rattle.osc_paging.specs.KeptTables.{KeptTables, mapping_at, root_of, piece_of}
+use Rattle.osc_paging.specs.KeptTables.{mapping_at, piece_of}
 use Rattle.osc_paging.specs.Agree.{Agrees}
 use Rattle.osc_paging.specs.KeptTables.{frame_of as table_over}
 use Rattle.osc_paging.specs.TableChanges.{renamed, renamed_page, renamed_table}
@@ -27,17 +25,17 @@ use Rattle.osc_space.specs.LeafFlags.{read_write_at}
 use Rattle.osc_space.specs.Space.{Space, Draft, first_reason}
 use Rattle.osc_space.specs.Fork.{Forked, private_frames, free_numbers, copies, copy_by, copy_job, table_frame_of, heap_frame_of, frame_of_page, image_frames, frames_owned, is_private, fork_reasons, fork_plan}
 use Rattle.osc_space.specs.ForkLaws.{StandsForNew, CopiesApart, IsCopy, AreCopies, CopiesEach}
-use Rattle.osc_space.specs.Share.{Regions, holders, hold, join, shared_pages, shared_frames, next_shared_page}
-use Rattle.osc_space.specs.Agree.{AreApart, HeapAgrees, RegionsAgree, SpaceAgrees, frames_of}
+use Rattle.osc_space.specs.Share.{Regions, holders, hold, join, shared_frames}
+use Rattle.osc_space.specs.Agree.{HeapAgrees, SpaceAgrees}
 use Rattle.osc_space.proofs.ForkLawProofs.{forks_apart, forks_copy_each}
 use Rattle.osc_space.proofs.ForkAgreeProofs.{forks_agree}
 use Rattle.osc_parts.specs.Frames.{one_at, among, vacant, one_where, frames_held, frames_mapped, FramesFit}
-use Rattle.osc_parts.specs.Settled.{tables_of, PartsFit, Settled}
+use Rattle.osc_parts.specs.Settled.{PartsFit, Settled}
 use Rattle.osc_parts.specs.Jobs.{WritesWhere, AllWriteWhere, Pushed, IsOwn}
 use Rattle.osc_parts.specs.OthersFit.{HoldsApart}
 use Rattle.osc_parts.specs.ForkFits.{ForkFits, ForksFit}
 use Rattle.osc_parts.proofs.Counts.{among-append, member_counts}
-use Rattle.osc_parts.proofs.Trading.{held_is, owned_is, held_once, held_taken, fits, vacant_there, quiet_apart, quiet_taken}
+use Rattle.osc_parts.proofs.Trading.{held_is, owned_is, held_once, held_taken, fits, quiet_apart, quiet_taken}
 use Rattle.osc_parts.proofs.Settling.{settled_frames}
 use Rattle.osc_parts.proofs.Blocks.{taken_small}
 use Rattle.osc_parts.proofs.EndParts.{member_held}
@@ -375,10 +373,12 @@ module _ (kind : HeapKind) (batch : ℕ) (entries : ℕ → ℕ → ℕ) (words 
   }
 
   child_is_heap : IsHeap (copy names d.space.heap)
-  child_is_heap = copy_is_heap d.space.heap names settled.parts.heap (each.names ∙ sym was.frames,
-      have d.space.heap.frames (map (rename names) d.space.heap.pages)
-      (λ g. (let o = child_once g in let h = held_is g child in omega (arith, o, h)))
-      (λ g l. (let h = held_is g child in let t = (child_new g (omega (arith, h, l))).1 in let m = taken_small after g t in let e = each.frames in let w = was.frames in omega (arith, m, e, w))))
+  child_is_heap = copy_is_heap d.space.heap names settled.parts.heap (
+    each.names ∙ sym was.frames,
+    have d.space.heap.frames (map (rename names) d.space.heap.pages)
+        (λ g. (let o = child_once g in let h = held_is g child in omega (arith, o, h)))
+        (λ g l. (let h = held_is g child in let t = (child_new g (omega (arith, h, l))).1 in let m = taken_small after g t in let e = each.frames in let w = was.frames in omega (arith, m, e, w))),
+  )
 
   child_parts : PartsFit kind batch now child after
   child_parts =

@@ -1,35 +1,32 @@
 -- A free that is not refused: what it makes of a process's parts, before and after the return.
-use Rattle.std.proofs.Common.{ℕ, zero, suc, ◌+◌, ◌-◌, ◌*◌, ◌/◌, ◌%◌, ◌≡◌, ◌≢◌, ◌<◌, ◌≤◌, ◌==◌, nat_lt, nat_le, ◌&&◌, ◌||◌, Bool, true, false, not, cond, Option, Some, None, is_some, option_map, List, [], ◌∷◌, ◌++◌, length, map, filter, slice_get, arith, refl, ap, sym, ◌∙◌, subst, ◌⊎◌, inl, inr, ⊎_elim}
-use Rattle.std.specs.List.{list_any, range_with_len}
+use Rattle.std.proofs.Common.{ℕ, ◌+◌, ◌-◌, ◌/◌, ◌≡◌, ◌≢◌, ◌<◌, ◌≤◌, ◌==◌, ◌||◌, Bool, true, false, cond, Option, Some, None, is_some, option_map, List, [], ◌∷◌, length, arith, refl, ap, sym, ◌∙◌, subst, ◌⊎◌, inl, inr}
 use Rattle.std.proofs.lemmas.Bool.Decides.{nat_tests}
 use Rattle.std.proofs.lemmas.List.{length-append}
 use Rattle.osc_word.specs.declared.settings.HeapKind.TheVariants.{Oscar}
-use Rattle.osc_word.specs.AddressMap.{first_shadow_page, is_shadow, is_canonical_page, is_in_map}
+use Rattle.osc_word.specs.AddressMap.{first_shadow_page, is_shadow}
 use Rattle.osc_class.specs.Rooms.{room_of, shadow_pages}
 use Rattle.osc_slot.specs.declared.Block.{Block}
 use Rattle.osc_slot.specs.Slots.{is_held}
 use Rattle.osc_slot.specs.Heap.{frame_of}
-use Rattle.osc_paging.specs.KeptTables.{KeptTables, mapping_at, root_of}
+use Rattle.osc_paging.specs.KeptTables.{mapping_at}
 use Rattle.osc_paging.specs.KeptTables.{frame_of as table_over}
-use Rattle.osc_paging.specs.TableChanges.{Changed}
 use Rattle.osc_paging.specs.Agree.{AgreesAfter}
 use Rattle.osc_paging.proofs.TableLawProofs.{tables_stand_above}
 use Rattle.osc_space.specs.declared.ObjectFact.{ObjectFact}
 use Rattle.osc_space.specs.LeafFlags.{read_write_at}
-use Rattle.osc_space.specs.Objects.{Seen, mark, is_live, has_page, is_live_page, kill, killed, fact}
+use Rattle.osc_space.specs.Objects.{Seen, is_live, has_page, is_live_page, killed, fact}
 use Rattle.osc_space.specs.Header.{block_of}
-use Rattle.osc_space.specs.Space.{Space, Draft, Terms}
+use Rattle.osc_space.specs.Space.{Draft, Terms}
 use Rattle.osc_space.specs.Share.{Regions}
-use Rattle.osc_space.specs.Free.{unmap_all, let_wait}
-use Rattle.osc_space.specs.Agree.{is_waiting, IsLive, IsKept, IsBlockOf, ObjectsAgree, AreApart}
+use Rattle.osc_space.specs.Free.{let_wait}
+use Rattle.osc_space.specs.Agree.{is_waiting, IsLive, IsKept, IsBlockOf, ObjectsAgree}
 use Rattle.osc_space.proofs.ObjectLawProofs.{pages_are_granted_once, mark-kill, grants_keep}
-use Rattle.osc_parts.specs.Frames.{among, frames_held, FramesFit, Trades}
-use Rattle.osc_parts.specs.Settled.{tables_of, PartsFit, Settled}
+use Rattle.osc_parts.specs.Frames.{Trades}
+use Rattle.osc_parts.specs.Settled.{tables_of, Settled}
 use Rattle.osc_parts.proofs.Lists.{get_within}
 use Rattle.osc_parts.proofs.Killing.{kill_length, killed_at, killed_other, killed_here, kill_other, one_owner, kill_own, in_append, apart_more}
-use Rattle.osc_parts.proofs.Trading.{fit_after, unmap_all-trades}
+use Rattle.osc_parts.proofs.Trading.{unmap_all-trades}
 use Rattle.osc_parts.proofs.Shapes.{unmap_all-shape, unmap_all-free, unmap_all-pages, unmap_all-agrees}
-use Rattle.osc_parts.proofs.Settling.{settled_frames}
 use Rattle.osc_parts.proofs.Waiting.{is_in, object_covered}
 
 pub record Frees (batch : ℕ) (entries : ℕ → ℕ → ℕ) (words : List ℕ) (regions : Regions) (terms : Terms) (d : Draft) (s : Seen) : Type 0 where

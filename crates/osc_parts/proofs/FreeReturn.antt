@@ -1,6 +1,5 @@
 -- Each free fits: where its object waits, where a batch is let go, and where it is refused.
-use Rattle.std.proofs.Common.{ℕ, zero, suc, ◌+◌, ◌-◌, ◌*◌, ◌/◌, ◌≡◌, ◌≢◌, ◌<◌, ◌≤◌, ◌==◌, nat_lt, ◌&&◌, ◌||◌, Bool, true, false, not, cond, Option, Some, None, is_some, List, [], ◌∷◌, ◌++◌, length, map, filter, slice_get, arith, refl, ap, sym, ◌∙◌, subst, ◌⊎◌, inl, inr}
-use Rattle.std.specs.List.{list_any, range_with_len}
+use Rattle.std.proofs.Common.{ℕ, zero, suc, ◌+◌, ◌*◌, ◌≡◌, ◌≢◌, ◌≤◌, Bool, true, false, cond, Option, Some, None, is_some, List, [], ◌∷◌, ◌++◌, length, map, slice_get, arith, refl, ap, sym, ◌∙◌, subst}
 use Rattle.std.proofs.lemmas.Bool.Decides.{nat_tests}
 use Rattle.std.proofs.lemmas.List.{length-append}
 use Rattle.osc_word.specs.declared.calls.Answer.{Answer}
@@ -8,37 +7,34 @@ use Rattle.osc_word.specs.declared.calls.Answer.TheVariants.{Freed, NotAnObject}
 use Rattle.osc_word.specs.declared.settings.HeapKind.TheVariants.{Oscar}
 use Rattle.osc_word.specs.AddressMap.{is_in_map}
 use Rattle.osc_slot.specs.declared.Block.{Block}
-use Rattle.osc_slot.specs.Slots.{is_held}
-use Rattle.osc_slot.specs.Heap.{Heap, IsHeap}
-use Rattle.osc_paging.specs.KeptTables.{KeptTables, mapping_at, root_of}
+use Rattle.osc_slot.specs.Heap.{Heap}
+use Rattle.osc_paging.specs.KeptTables.{KeptTables, mapping_at}
 use Rattle.osc_paging.specs.KeptTables.{frame_of as table_over}
-use Rattle.osc_paging.specs.Agree.{AgreesAfter}
 use Rattle.osc_paging.specs.CopyLaws.{KeepsTaken}
-use Rattle.osc_space.specs.declared.ObjectFact.{ObjectFact}
 use Rattle.osc_space.specs.declared.ObjectState.{ObjectState}
 use Rattle.osc_space.specs.declared.ObjectState.TheVariants.{Live, Dead}
-use Rattle.osc_space.specs.Objects.{Seen, mark, is_live, is_live_state, is_live_page, fact, object_at, has_page}
+use Rattle.osc_space.specs.Objects.{Seen, is_live, is_live_state, object_at, has_page}
 use Rattle.osc_space.specs.Header.{Found, object_reasons, death_reasons, damage_reason}
-use Rattle.osc_space.specs.Space.{Space, Draft, Terms, Outcome, Closing, Keeps, GivesBack, first_reason, unless, unchanged}
+use Rattle.osc_space.specs.Space.{Space, Draft, Terms, Keeps, GivesBack, first_reason, unless}
 use Rattle.osc_space.specs.Fork.{table_frame_of}
 use Rattle.osc_space.specs.Share.{Regions}
-use Rattle.osc_space.specs.Free.{unmap_all, let_wait, flush, flush_where, closing_where, is_full, waiting_facts, waiting_blocks, freed, free_seen, free_plan}
+use Rattle.osc_space.specs.Free.{let_wait, flush, flush_where, closing_where, is_full, waiting_facts, waiting_blocks, freed, free_seen, free_plan}
 use Rattle.osc_space.specs.Finish.{finished, give_blocks}
-use Rattle.osc_space.specs.Agree.{IsLive, ObjectsAgree}
+use Rattle.osc_space.specs.Agree.{ObjectsAgree}
 use Rattle.osc_space.proofs.ObjectLawProofs.{looks_find_objects}
-use Rattle.osc_parts.specs.Frames.{among, vacant, frames_held, FramesFit, Trades}
-use Rattle.osc_parts.specs.Settled.{tables_of, PartsFit, Settled}
+use Rattle.osc_parts.specs.Frames.{among, vacant, FramesFit, Trades}
+use Rattle.osc_parts.specs.Settled.{tables_of, PartsFit}
 use Rattle.osc_parts.specs.Jobs.{Pushed, IsOwn, PushesOwn}
-use Rattle.osc_parts.specs.PlanFits.{PlanFits, gives_block, with_jobs}
-use Rattle.osc_parts.specs.FreeLaws.{HasTerms, FreesFit}
+use Rattle.osc_parts.specs.PlanFits.{PlanFits}
+use Rattle.osc_parts.specs.FreeLaws.{FreesFit}
 use Rattle.osc_parts.proofs.Trading.{held_is, fit_after, trades_both}
 use Rattle.osc_parts.proofs.Shapes.{Unmaps, unmap_all-shape, unmap_all-pages}
-use Rattle.osc_parts.proofs.Settling.{settled_frames, Rest, parts_after, keeps_fits, unchanged_fits}
+use Rattle.osc_parts.proofs.Settling.{settled_frames, parts_after, keeps_fits, unchanged_fits}
 use Rattle.osc_parts.proofs.JobCounts.{IsOf, pushed_both, pushed_weaker, unmap_all-pushes}
 use Rattle.osc_parts.proofs.Giving.{Finishes, finishes}
 use Rattle.osc_parts.proofs.Flushing.{Flushed, flushes}
 use Rattle.osc_parts.proofs.LettingGo.{stand, waiting_are_held, waiting_are_different, is_held_waiting, left_agrees}
-use Rattle.osc_parts.proofs.FreeParts.{Frees, waits_trades, waits_free, waits_agrees, waits_tables, waits_objects}
+use Rattle.osc_parts.proofs.FreeParts.{Frees, waits_trades, waits_free, waits_agrees, waits_objects}
 
 -- an object that is taken lives
 pub taken_lives : (s : Seen) (found : Found) → first_reason (object_reasons (Some s) found) ≡ None → is_live s.fact ≡ true

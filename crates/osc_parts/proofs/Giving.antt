@@ -1,30 +1,27 @@
 -- What is given back when a call returns: blocks, and the frames of leaf tables that stand aside.
-use Rattle.std.proofs.Common.{ℕ, zero, suc, ◌+◌, ◌-◌, ◌*◌, ◌/◌, ◌%◌, ◌≡◌, ◌≢◌, ◌<◌, ◌≤◌, ◌==◌, nat_lt, nat_le, ◌&&◌, ◌||◌, Bool, true, false, not, cond, Option, Some, None, is_some, List, [], ◌∷◌, ◌++◌, length, map, filter, find, slice_get, slice_set, arith, refl, ap, sym, ◌∙◌, subst, ◌⊎◌, inl, inr, ⊎_elim}
-use Rattle.std.specs.List.{list_any}
+use Rattle.std.proofs.Common.{ℕ, ◌+◌, ◌*◌, ◌≡◌, ◌<◌, ◌≤◌, ◌&&◌, Bool, true, false, not, Some, List, [], ◌∷◌, length, map, filter, slice_get, slice_set, arith, refl, ap, sym, ◌∙◌, subst, inl, inr}
 use Rattle.std.proofs.lemmas.Bool.Decides.{nat_tests}
 use Rattle.osc_word.specs.declared.job_list.Job.{Job}
 use Rattle.osc_slot.specs.declared.Block.{Block}
 use Rattle.osc_slot.specs.declared.HeapPage.{HeapPage}
-use Rattle.osc_slot.specs.Slots.{is_held, is_covered, is_block}
-use Rattle.osc_slot.specs.Heap.{Heap, HeapAndFree, IsHeap, FramesAgree, Keeps, release, without_block, give_back, frame_of, free_count}
-use Rattle.osc_slot.proofs.Backing.{length-give_back, length-set, free_count-give, free_count-le}
+use Rattle.osc_slot.specs.Slots.{is_held, is_covered}
+use Rattle.osc_slot.specs.Heap.{IsHeap, release, without_block, frame_of, free_count}
+use Rattle.osc_slot.proofs.Backing.{length-give_back, free_count-give, free_count-le}
 use Rattle.osc_slot.proofs.Releasing.{release_keeps}
-use Rattle.osc_paging.specs.declared.Piece.{Piece}
 use Rattle.osc_paging.specs.declared.TableFrame.{TableFrame}
 use Rattle.osc_paging.specs.JobWords.{words_after}
-use Rattle.osc_paging.specs.KeptTables.{KeptTables, piece_of}
-use Rattle.osc_paging.specs.TableChanges.{Changed, frames_given, give_leaves}
+use Rattle.osc_paging.specs.KeptTables.{KeptTables}
+use Rattle.osc_paging.specs.TableChanges.{frames_given, give_leaves}
 use Rattle.osc_paging.specs.Agree.{Agrees, AgreesAfter}
 use Rattle.osc_paging.specs.OtherLaws.{IsAnyTable}
 use Rattle.osc_paging.proofs.Elsewhere.{some_piece}
 use Rattle.osc_paging.proofs.Kept.{length-frames_given}
 use Rattle.osc_paging.proofs.TableLawProofs.{giving_keeps}
 use Rattle.osc_space.specs.Fork.{table_frame_of, heap_frame_of}
-use Rattle.osc_space.specs.Share.{shared_frames}
 use Rattle.osc_space.specs.Agree.{AreApart, AllTaken}
-use Rattle.osc_space.specs.Space.{Space, Draft, Closing, GivesBack, change}
+use Rattle.osc_space.specs.Space.{Space, Draft, GivesBack, change}
 use Rattle.osc_space.specs.Finish.{give_blocks, none_waits, finished}
-use Rattle.osc_parts.specs.Frames.{one_at, among, vacant, frames_held, FramesFit, Trades}
+use Rattle.osc_parts.specs.Frames.{among, frames_held, FramesFit, Trades}
 use Rattle.osc_parts.specs.Settled.{tables_of}
 use Rattle.osc_parts.specs.PlanFits.{with_jobs}
 use Rattle.osc_parts.proofs.Counts.{once_apart, all_taken, block_pages_split, give_back_vacant, frames_given_vacant, taken_but}

@@ -1,11 +1,10 @@
 -- How many jobs each change pushes, and where they write.
-use Rattle.std.proofs.Common.{ℕ, zero, suc, ◌+◌, ◌-◌, ◌*◌, ◌/◌, ◌%◌, ◌≡◌, ◌≢◌, ◌<◌, ◌≤◌, ◌==◌, nat_lt, nat_le, min, max, ◌&&◌, ◌||◌, Bool, true, false, not, cond, Option, Some, None, is_some, List, [], ◌∷◌, ◌++◌, length, map, filter, position, slice_get, slice_set, arith, refl, ap, sym, ◌∙◌, subst}
-use Rattle.std.specs.List.{list_any, range_with_len}
+use Rattle.std.proofs.Common.{ℕ, zero, suc, ◌+◌, ◌*◌, ◌/◌, ◌%◌, ◌≡◌, ◌<◌, ◌≤◌, nat_lt, min, max, Bool, true, false, cond, Option, Some, None, List, [], ◌∷◌, ◌++◌, length, map, position, arith, refl, ap, ◌∙◌, subst}
+use Rattle.std.specs.List.{range_with_len}
 use Rattle.std.proofs.lemmas.Bool.Decides.{nat_tests}
 use Rattle.std.proofs.lemmas.List.{length-append, append_assoc}
-use Rattle.std.proofs.lemmas.List.FromFn.{length-map-range_with_len}
 use Rattle.osc_word.specs.declared.job_list.Job.{Job}
-use Rattle.osc_word.specs.declared.job_list.Job.TheVariants.{PutWord, ZeroWords, CopyWords, ClearBox}
+use Rattle.osc_word.specs.declared.job_list.Job.TheVariants.{ZeroWords, CopyWords}
 use Rattle.osc_sv39.specs.declared.entries.Mapping.{Mapping}
 use Rattle.osc_sv39.specs.declared.entries.PteEntry.TheVariants.{Table, Leaf}
 use Rattle.osc_sv39.specs.Entries.{word_of}
@@ -13,8 +12,8 @@ use Rattle.osc_sv39.specs.Walk.{piece}
 use Rattle.osc_slot.proofs.Backing.{free_count-take}
 use Rattle.osc_slot.specs.Heap.{free_count}
 use Rattle.osc_paging.specs.declared.TableFrame.{TableFrame}
-use Rattle.osc_paging.specs.KeptTables.{KeptTables, frame_of, is_piece}
-use Rattle.osc_paging.specs.TableChanges.{Changed, put_job, zero_job, linked, link, link_all, leaf_put, put_leaf, map_page, map_pages, leaf_cleared, unmap_page, unlinked, reclaim, table_frame, without_page, without_table}
+use Rattle.osc_paging.specs.KeptTables.{frame_of, is_piece}
+use Rattle.osc_paging.specs.TableChanges.{Changed, put_job, zero_job, linked, link, link_all, leaf_put, map_page, map_pages, leaf_cleared, unmap_page, table_frame, without_page}
 use Rattle.osc_paging.proofs.Kept.{position_passes}
 use Rattle.osc_class.specs.declared.Room.{Room}
 use Rattle.osc_class.specs.Rooms.{IsRoom, block_bytes, shadow_pages}
@@ -23,9 +22,9 @@ use Rattle.osc_slot.specs.declared.HeapPage.{HeapPage}
 use Rattle.osc_slot.proofs.Bounds.{bytes_within}
 use Rattle.osc_space.specs.BlockWords.{Stretch, stretch, cut, stretches, words_in, block_word, zero_jobs, size_job, part_job, copy_jobs, trim_jobs, whole_end, words_end}
 use Rattle.osc_space.specs.Fork.{table_frame_of}
-use Rattle.osc_space.specs.Free.{unmap_all, reclaim_all, clear_jobs}
-use Rattle.osc_parts.specs.Frames.{one_at, among}
-use Rattle.osc_parts.specs.Jobs.{AllWriteWhere, Pushed}
+use Rattle.osc_space.specs.Free.{unmap_all}
+use Rattle.osc_parts.specs.Frames.{among}
+use Rattle.osc_parts.specs.Jobs.{Pushed}
 use Rattle.osc_parts.proofs.Counts.{table_more}
 use Rattle.osc_parts.proofs.Blocks.{where_append, all_weaker, part_few}
 

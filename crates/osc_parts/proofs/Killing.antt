@@ -1,9 +1,8 @@
 -- An object dies: what is kept of the objects, and which pages have a live one.
-use Rattle.std.proofs.Common.{ℕ, zero, suc, ◌+◌, ◌-◌, ◌*◌, ◌/◌, ◌≡◌, ◌≢◌, ◌<◌, ◌≤◌, ◌==◌, nat_lt, nat_le, ◌&&◌, ◌||◌, Bool, true, false, not, cond, Option, Some, None, is_some, option_map, List, [], ◌∷◌, ◌++◌, length, slice_get, arith, refl, ap, sym, ◌∙◌, subst, ◌⊎◌, inl, inr, ⊎_elim}
-use Rattle.std.specs.List.{list_any}
+use Rattle.std.proofs.Common.{ℕ, zero, suc, ◌≡◌, ◌≢◌, ◌<◌, ◌==◌, ◌&&◌, ◌||◌, Bool, true, false, cond, Some, option_map, List, [], ◌∷◌, ◌++◌, length, slice_get, arith, refl, ap, sym, ◌∙◌, subst, ◌⊎◌, inl, inr, ⊎_elim}
 use Rattle.std.proofs.lemmas.Bool.Decides.{nat_tests}
 use Rattle.osc_space.specs.declared.ObjectFact.{ObjectFact}
-use Rattle.osc_space.specs.Objects.{mark, is_live, has_page, is_live_page, kill, killed, fact, AreGranted}
+use Rattle.osc_space.specs.Objects.{is_live, has_page, is_live_page, kill, killed, fact, AreGranted}
 use Rattle.osc_space.specs.Agree.{AreApart}
 use Rattle.osc_space.proofs.ObjectLawProofs.{pages_are_granted_once}
 use Rattle.osc_parts.proofs.Lists.{none_any}

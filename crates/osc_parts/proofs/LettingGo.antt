@@ -1,6 +1,5 @@
 -- Once the blocks of all objects that wait are given back, the live objects and their blocks agree.
-use Rattle.std.proofs.Common.{ℕ, zero, suc, ◌+◌, ◌-◌, ◌*◌, ◌/◌, ◌%◌, ◌≡◌, ◌≢◌, ◌<◌, ◌≤◌, ◌==◌, nat_lt, nat_le, ◌&&◌, ◌||◌, Bool, true, false, not, cond, Option, Some, None, is_some, option_map, List, [], ◌∷◌, ◌++◌, length, map, filter, slice_get, arith, refl, ap, sym, ◌∙◌, subst, ◌⊎◌, inl, inr, ⊎_elim}
-use Rattle.std.specs.List.{list_any}
+use Rattle.std.proofs.Common.{ℕ, ◌+◌, ◌/◌, ◌≡◌, ◌<◌, ◌≤◌, ◌&&◌, Bool, true, false, not, Some, None, is_some, option_map, [], arith, refl, ap, sym, ◌∙◌, subst}
 use Rattle.std.proofs.lemmas.Bool.Decides.{nat_tests}
 use Rattle.osc_word.specs.AddressMap.{is_shadow, is_canonical_page}
 use Rattle.osc_class.specs.Rooms.{room_of, shadow_pages}
@@ -15,7 +14,7 @@ use Rattle.osc_space.specs.Header.{block_of}
 use Rattle.osc_space.specs.Space.{Space}
 use Rattle.osc_space.specs.Free.{waiting_blocks}
 use Rattle.osc_space.specs.Agree.{is_waiting, AreApart, IsLive, IsKept, IsBlockOf, ObjectsAgree}
-use Rattle.osc_parts.proofs.Waiting.{is_in, Different, AllHeld, Waiter, waiter, waiting_held, waiting_all_held, waiting_differ, lies, object_covered}
+use Rattle.osc_parts.proofs.Waiting.{is_in, Different, AllHeld, waiter, waiting_held, waiting_all_held, waiting_differ, lies, object_covered}
 
 -- what is needed of the objects when those that wait are let go: all but that their leaf tables are
 -- linked, which may be given up by then

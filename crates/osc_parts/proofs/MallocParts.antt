@@ -1,66 +1,59 @@
 -- A malloc that is not refused: what it makes of a process's parts.
-use Rattle.std.proofs.Common.{ℕ, zero, suc, ◌+◌, ◌-◌, ◌*◌, ◌/◌, ◌%◌, ◌^◌, ◌≡◌, ◌≢◌, ◌<◌, ◌≤◌, ◌==◌, nat_lt, nat_le, ◌&&◌, ◌||◌, Bool, true, false, not, cond, Option, Some, None, is_some, option_map, List, [], ◌∷◌, ◌++◌, length, map, slice_get, slice_set, position, arith, refl, ap, sym, ◌∙◌, subst, ◌⊎◌, inl, inr, ⊎_elim}
+use Rattle.std.proofs.Common.{ℕ, zero, suc, ◌+◌, ◌-◌, ◌*◌, ◌/◌, ◌^◌, ◌≡◌, ◌<◌, ◌≤◌, ◌==◌, nat_lt, nat_le, ◌&&◌, ◌||◌, Bool, true, false, cond, Option, Some, None, is_some, option_map, List, [], ◌∷◌, length, map, slice_get, arith, refl, ap, sym, ◌∙◌, subst, ◌⊎◌, inl, inr, ⊎_elim}
 use Rattle.std.specs.List.{list_any, range_with_len}
 use Rattle.std.proofs.lemmas.Bool.Decides.{nat_tests}
 use Rattle.std.proofs.lemmas.List.Folds.{list_any-append}
 use Rattle.std.proofs.lemmas.Option.{slice_get-map}
 use Rattle.std.proofs.lemmas.List.FromFn.{length-map-range_with_len}
-use Rattle.std.proofs.lemmas.List.{length-append}
 use Rattle.std.proofs.Math.Nat.{pow-succ'}
-use Rattle.osc_word.specs.declared.job_list.Job.{Job}
-use Rattle.osc_word.specs.declared.job_list.Job.TheVariants.{ZeroWords}
 use Rattle.osc_word.specs.declared.settings.HeapKind.TheVariants.{Oscar}
 use Rattle.osc_word.specs.declared.calls.Answer.{Answer}
 use Rattle.osc_word.specs.declared.calls.Answer.TheVariants as answer
-use Rattle.osc_word.specs.AddressMap.{first_shadow_page, is_shadow, is_canonical_page, is_in_map}
+use Rattle.osc_word.specs.AddressMap.{is_shadow, is_canonical_page, is_in_map}
 use Rattle.osc_sv39.specs.declared.entries.Mapping.{Mapping}
-use Rattle.osc_class.specs.declared.Room.{Room}
-use Rattle.osc_class.specs.declared.Room.TheVariants.{Small, Pages}
-use Rattle.osc_class.specs.Rooms.{room_of, shadow_pages, IsRoom, size_of, block_bytes}
+use Rattle.osc_class.specs.Rooms.{room_of, shadow_pages, IsRoom}
 use Rattle.osc_slot.specs.declared.Block.{Block}
 use Rattle.osc_slot.specs.declared.HeapPage.{HeapPage}
-use Rattle.osc_slot.specs.Slots.{is_held, is_covered, is_on, is_block, block_frames}
-use Rattle.osc_slot.specs.Areas.{block_at_slot, start_of, page_of}
-use Rattle.osc_slot.specs.Heap.{Heap, HeapAndFree, Backing, back_by, back, place, next_block, with_block, frame_of, free_count, IsHeap, FramesAgree, Keeps}
-use Rattle.osc_slot.proofs.Backing.{get-set, free_count-le}
-use Rattle.osc_slot.proofs.Bounds.{bytes_within, pages_within, pages_positive}
+use Rattle.osc_slot.specs.Slots.{is_held, is_covered, is_on, is_block}
+use Rattle.osc_slot.specs.Areas.{start_of}
+use Rattle.osc_slot.specs.Heap.{HeapAndFree, place, next_block, with_block, frame_of, free_count, FramesAgree, Keeps}
+use Rattle.osc_slot.proofs.Backing.{free_count-le}
+use Rattle.osc_slot.proofs.Bounds.{pages_within, pages_positive}
 use Rattle.osc_slot.proofs.HeldBlocks.{is_block_self, same_block, any_weaker}
 use Rattle.osc_slot.proofs.InOrder.{any-insert}
-use Rattle.osc_slot.proofs.Placing.{Next, next, place_is, place_keeps, with_pages}
-use Rattle.osc_paging.specs.KeptTables.{KeptTables, mapping_at, need, root_of, levels_of, piece_of}
-use Rattle.osc_paging.specs.TableChanges.{Changed, map_pages}
-use Rattle.osc_paging.specs.TableLaws.{MapsPages, mapped_among}
+use Rattle.osc_slot.proofs.Placing.{Next}
+use Rattle.osc_paging.specs.KeptTables.{mapping_at, need, root_of, levels_of}
+use Rattle.osc_paging.specs.TableChanges.{map_pages}
+use Rattle.osc_paging.specs.TableLaws.{MapsPages}
 use Rattle.osc_paging.specs.Agree.{AgreesAfter}
 use Rattle.osc_paging.specs.CopyLaws.{IsNoTable, KeepsTaken}
 use Rattle.osc_paging.proofs.TableLawProofs.{mappings_map_pages, mappings_take_need}
-use Rattle.osc_paging.proofs.Elsewhere.{taking_keeps}
-use Rattle.osc_paging.proofs.Others.{work_elsewhere_keeps}
 use Rattle.osc_space.specs.declared.ObjectFact.{ObjectFact}
 use Rattle.osc_space.specs.LeafFlags.{read_write_at}
-use Rattle.osc_space.specs.Objects.{mark, next_page, is_live, has_page, is_live_page, fact, grant, granted_at, AreGranted}
+use Rattle.osc_space.specs.Objects.{mark, next_page, is_live, has_page, is_live_page, fact, granted_at}
 use Rattle.osc_space.specs.Header.{block_of}
-use Rattle.osc_space.specs.Space.{Space, Draft, Outcome, first_reason, reason, unless}
-use Rattle.osc_space.specs.BlockWords.{Stretch, stretches, words_in, block_word, block_mappings, frame_at, zero_block, header_jobs}
-use Rattle.osc_space.specs.Fork.{table_frame_of, heap_frame_of}
-use Rattle.osc_space.specs.Share.{Regions, shared_frames}
+use Rattle.osc_space.specs.Space.{Draft, first_reason, reason, unless, Keeps as GivesNothing}
+use Rattle.osc_space.specs.BlockWords.{block_mappings, frame_at}
+use Rattle.osc_space.specs.Fork.{heap_frame_of}
+use Rattle.osc_space.specs.Share.{Regions}
 use Rattle.osc_space.specs.Malloc.{malloc_in, malloc_plan, malloc_reasons, block_need, fill_block, grant_object, place_block}
 use Rattle.osc_space.specs.Agree.{is_waiting, IsLive, IsKept, IsBlockOf, ObjectsAgree}
 use Rattle.osc_space.specs.WordLaws.{IsFrameOf}
 use Rattle.osc_space.proofs.PlanLawProofs.{range_at}
 use Rattle.osc_space.proofs.ObjectLawProofs.{pages_are_granted_once, mark-grant, grants_keep}
-use Rattle.osc_parts.specs.Frames.{among, frames_held, FramesFit, Trades}
+use Rattle.osc_parts.specs.Frames.{among, FramesFit, Trades}
 use Rattle.osc_parts.specs.Settled.{tables_of, PartsFit, Settled}
-use Rattle.osc_parts.specs.Jobs.{AllWriteWhere, Pushed, IsOwn, PushesOwn}
-use Rattle.osc_parts.specs.MallocLaws.{MallocsFit, MallocsTakeNeed}
+use Rattle.osc_parts.specs.Jobs.{Pushed, IsOwn, PushesOwn}
+use Rattle.osc_parts.specs.MallocLaws.{MallocsFit, MallocsTakeNeed, MallocsGiveNothing}
 use Rattle.osc_parts.specs.PlanFits.{PlanFits}
-use Rattle.osc_parts.proofs.JobCounts.{pushed_both, pushed_weaker, IsOf, map_pages-links, cut-few, length-mapped}
+use Rattle.osc_parts.proofs.JobCounts.{pushed_both, pushed_weaker, IsOf, map_pages-links}
 use Rattle.osc_parts.proofs.Lists.{grown, get_append, get_end, get_within, any_at}
 use Rattle.osc_parts.proofs.Waiting.{header_page}
 use Rattle.osc_parts.proofs.PlacingParts as placing
-use Rattle.osc_parts.proofs.Trading.{held_is, held_once, held_taken, fit_after, over, trades_both, back-trades, map_pages-trades}
+use Rattle.osc_parts.proofs.Trading.{held_is, trades_both, map_pages-trades}
 use Rattle.osc_parts.proofs.Shapes.{map_pages-adds, map_pages-agrees, map_pages-taken}
-use Rattle.osc_parts.proofs.Settling.{settled_frames, heap_frames, Rest, parts_after, keeps_fits, unchanged_fits}
-use Rattle.osc_parts.proofs.Blocks.{room_is_room, room_bytes, page_member, no_piece, HasFrames, lies_at, block_frame, frame_found, all_weaker, all_elsewhere, fill_where, block_reads}
+use Rattle.osc_parts.proofs.Settling.{parts_after, keeps_fits, unchanged_fits}
+use Rattle.osc_parts.proofs.Blocks.{HasFrames, frame_found, block_reads}
 
 -- ---- what a malloc that is not refused stands on
 pub record Mallocs (batch : ℕ) (entries : ℕ → ℕ → ℕ) (words : List ℕ) (regions : Regions) (n : ℕ) (d : Draft) : Type 0 where
@@ -458,3 +451,11 @@ mallocs_take_need batch entries words regions n d s e =
     let made = malloc_in n (next_block d.space.heap (room_of n)) d in
     ap (λ r. free_count (unless r d made).draft.free + (block_need d (room_of n) + need d.space.tables (next_page d.space.objects) (shadow_pages (room_of n)))) e
     ∙ malloc_takes batch entries words regions n d (mallocs batch entries words regions n d s e)
+
+pub mallocs_give_nothing : MallocsGiveNothing
+unfolding malloc_plan
+mallocs_give_nothing n d = go (first_reason (malloc_reasons n d))
+  where
+    go : (r : Option Answer) → (unless r d (malloc_in n (next_block d.space.heap (room_of n)) d)).closing ≡ GivesNothing
+    go None = refl
+    go (Some a) = refl

@@ -1,13 +1,11 @@
 -- The first memory fits.
-use Rattle.std.proofs.Common.{ℕ, zero, suc, ◌+◌, ◌-◌, ◌*◌, ◌≡◌, ◌<◌, ◌≤◌, ◌==◌, nat_lt, ◌&&◌, ◌||◌, Bool, true, false, cond, Option, Some, None, is_some, List, [], ◌∷◌, length, slice_get, arith, refl, ap, sym, ◌∙◌, subst}
-use Rattle.std.specs.Prelude.{slice_index, replicate}
+use Rattle.std.proofs.Common.{ℕ, zero, suc, ◌-◌, ◌≡◌, ◌==◌, ◌&&◌, true, cond, Some, None, is_some, length, arith, refl, ap}
+use Rattle.std.specs.Prelude.{replicate}
 use Rattle.std.proofs.lemmas.Bool.Decides.{nat_tests}
 use Rattle.osc_word.specs.declared.settings.HeapKind.{HeapKind}
 use Rattle.osc_word.specs.declared.settings.HeapKind.TheVariants.{Oscar, Plain}
-use Rattle.osc_word.specs.AddressMap.{is_shared}
-use Rattle.osc_slot.specs.declared.Block.{Block}
 use Rattle.osc_slot.proofs.Copying.{empty_is_heap}
-use Rattle.osc_space.specs.Share.{Regions, holders, no_regions}
+use Rattle.osc_space.specs.Share.{holders, no_regions}
 use Rattle.osc_space.specs.Agree.{HeapAgrees}
 use Rattle.osc_parts.specs.OpenLaws.{opened_space, OpeningFits}
 

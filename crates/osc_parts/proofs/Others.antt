@@ -1,27 +1,19 @@
 -- A call leaves other processes' memories as they are.
-use Rattle.std.proofs.Common.{ℕ, zero, suc, ◌+◌, ◌*◌, ◌≡◌, ◌≢◌, ◌<◌, ◌≤◌, ◌==◌, ◌&&◌, ◌||◌, Bool, true, false, Option, Some, None, is_some, List, [], ◌∷◌, ◌++◌, length, map, slice_get, arith, refl, ap, sym, ◌∙◌, subst, ◌⊎◌, inl, inr}
-use Rattle.std.proofs.lemmas.Bool.Decides.{nat_tests}
+use Rattle.std.proofs.Common.{ℕ, zero, suc, ◌+◌, ◌*◌, ◌≡◌, ◌≤◌, Bool, false, List, length, arith, refl, ap, sym, ◌∙◌, subst}
 use Rattle.osc_word.specs.declared.settings.HeapKind.{HeapKind}
 use Rattle.osc_word.specs.declared.job_list.Job.{Job}
-use Rattle.osc_word.specs.AddressMap.{is_shared}
-use Rattle.osc_sv39.specs.declared.entries.Mapping.{Mapping}
-use Rattle.osc_paging.specs.declared.Mapped.{Mapped}
 use Rattle.osc_paging.specs.JobWords.{words_after}
-use Rattle.osc_paging.specs.KeptTables.{KeptTables, mapping_at}
 use Rattle.osc_paging.specs.Agree.{Agrees}
 use Rattle.osc_paging.specs.CopyLaws.{IsNoTable}
 use Rattle.osc_paging.proofs.WordLists.{words_after-append}
 use Rattle.osc_paging.proofs.Elsewhere.{jobs_elsewhere_keep}
-use Rattle.osc_space.specs.Space.{Space, Draft, Outcome}
-use Rattle.osc_space.specs.Fork.{frame_of_page}
-use Rattle.osc_space.specs.Share.{Regions, holders, shared_pages, shared_frames}
+use Rattle.osc_space.specs.Space.{Space}
+use Rattle.osc_space.specs.Share.{Regions, shared_frames}
 use Rattle.osc_space.specs.Finish.{finished}
-use Rattle.osc_space.specs.Agree.{RegionsAgree, SpaceAgrees}
-use Rattle.osc_parts.specs.Frames.{among, vacant, one_where, frames_held, frames_mapped, FramesFit, Trades}
-use Rattle.osc_parts.specs.Settled.{PartsFit, Settled}
+use Rattle.osc_parts.specs.Frames.{among, vacant, frames_held, frames_mapped, FramesFit, Trades}
+use Rattle.osc_parts.specs.Settled.{PartsFit}
 use Rattle.osc_parts.specs.Jobs.{IsOwn, Pushed}
-use Rattle.osc_parts.specs.PlanFits.{PlanFits}
-use Rattle.osc_parts.specs.OthersFit.{HoldsApart, StandsBeside, OthersFit, PlansKeepOthers}
+use Rattle.osc_parts.specs.OthersFit.{HoldsApart, PlansKeepOthers}
 use Rattle.osc_parts.proofs.Counts.{among-append}
 use Rattle.osc_parts.proofs.Trading.{held_is, held_once, held_taken, fits, there, shared_same, quiet_taken}
 use Rattle.osc_parts.proofs.Settling.{Unheld, unheld_after, regions_after, settled_frames}

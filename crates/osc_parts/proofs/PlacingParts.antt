@@ -1,62 +1,36 @@
 -- A block is placed and filled: what that makes of frames and words, with either heap.
-use Rattle.std.proofs.Common.{ℕ, zero, suc, ◌+◌, ◌-◌, ◌*◌, ◌/◌, ◌%◌, ◌^◌, ◌≡◌, ◌≢◌, ◌<◌, ◌≤◌, ◌==◌, nat_lt, nat_le, ◌&&◌, ◌||◌, Bool, true, false, not, cond, Option, Some, None, is_some, option_map, List, [], ◌∷◌, ◌++◌, length, map, slice_get, slice_set, position, arith, refl, ap, sym, ◌∙◌, subst, ◌⊎◌, inl, inr, ⊎_elim}
-use Rattle.std.specs.List.{list_any, range_with_len}
+use Rattle.std.proofs.Common.{ℕ, zero, suc, ◌+◌, ◌*◌, ◌/◌, ◌%◌, ◌≡◌, ◌<◌, ◌≤◌, ◌||◌, Bool, false, Option, Some, None, List, ◌++◌, length, map, slice_get, position, arith, refl, ap, sym, ◌∙◌, subst, ◌⊎◌}
 use Rattle.std.proofs.lemmas.Bool.Decides.{nat_tests}
-use Rattle.std.proofs.lemmas.List.Folds.{list_any-append}
-use Rattle.std.proofs.lemmas.Option.{slice_get-map}
-use Rattle.std.proofs.lemmas.List.FromFn.{length-map-range_with_len}
 use Rattle.std.proofs.lemmas.List.{length-append}
-use Rattle.std.proofs.Math.Nat.{pow-succ'}
-use Rattle.osc_word.specs.declared.job_list.Job.{Job}
 use Rattle.osc_word.specs.declared.job_list.Job.TheVariants.{ZeroWords}
 use Rattle.osc_word.specs.declared.settings.HeapKind.{HeapKind}
-use Rattle.osc_word.specs.declared.calls.Answer.{Answer}
-use Rattle.osc_word.specs.declared.calls.Answer.TheVariants as answer
-use Rattle.osc_word.specs.AddressMap.{first_shadow_page, is_shadow, is_canonical_page, is_in_map}
-use Rattle.osc_sv39.specs.declared.entries.Mapping.{Mapping}
-use Rattle.osc_class.specs.declared.Room.{Room}
-use Rattle.osc_class.specs.declared.Room.TheVariants.{Small, Pages}
-use Rattle.osc_class.specs.Rooms.{room_of, shadow_pages, IsRoom, size_of, block_bytes}
+use Rattle.osc_class.specs.Rooms.{room_of, shadow_pages, IsRoom, block_bytes}
 use Rattle.osc_slot.specs.declared.Block.{Block}
-use Rattle.osc_slot.specs.declared.HeapPage.{HeapPage}
-use Rattle.osc_slot.specs.Slots.{is_held, is_covered, is_on, is_block, block_frames}
-use Rattle.osc_slot.specs.Areas.{block_at_slot, start_of, page_of}
-use Rattle.osc_slot.specs.Heap.{Heap, HeapAndFree, Backing, back_by, back, place, next_block, with_block, frame_of, free_count, IsHeap, FramesAgree, Keeps}
-use Rattle.osc_slot.proofs.Backing.{get-set, free_count-le}
-use Rattle.osc_slot.proofs.Bounds.{bytes_within, pages_within, pages_positive}
-use Rattle.osc_slot.proofs.HeldBlocks.{is_block_self, same_block, any_weaker}
+use Rattle.osc_slot.specs.Slots.{is_covered, is_on, block_frames}
+use Rattle.osc_slot.specs.Areas.{block_at_slot, page_of}
+use Rattle.osc_slot.specs.Heap.{HeapAndFree, Backing, back_by, back, place, next_block, with_block, free_count, FramesAgree, Keeps}
+use Rattle.osc_slot.proofs.Backing.{get-set}
+use Rattle.osc_slot.proofs.Bounds.{bytes_within}
 use Rattle.osc_slot.proofs.InOrder.{any-insert}
-use Rattle.osc_slot.proofs.Placing.{Next, next, place_is, place_keeps, with_pages}
-use Rattle.osc_paging.specs.KeptTables.{KeptTables, mapping_at, need, root_of, levels_of, piece_of}
-use Rattle.osc_paging.specs.TableChanges.{Changed, map_pages}
-use Rattle.osc_paging.specs.TableLaws.{MapsPages, mapped_among}
+use Rattle.osc_slot.proofs.Placing.{Next, next, place_is, place_keeps}
+use Rattle.osc_paging.specs.TableChanges.{Changed}
 use Rattle.osc_paging.specs.Agree.{AgreesAfter}
 use Rattle.osc_paging.specs.CopyLaws.{IsNoTable, KeepsTaken}
-use Rattle.osc_paging.proofs.TableLawProofs.{mappings_map_pages, mappings_take_need}
 use Rattle.osc_paging.proofs.Elsewhere.{taking_keeps}
 use Rattle.osc_paging.proofs.Others.{work_elsewhere_keeps}
-use Rattle.osc_space.specs.declared.ObjectFact.{ObjectFact}
-use Rattle.osc_space.specs.LeafFlags.{read_write_at}
-use Rattle.osc_space.specs.Objects.{mark, next_page, is_live, has_page, is_live_page, fact, grant, granted_at, AreGranted}
-use Rattle.osc_space.specs.Header.{block_of}
-use Rattle.osc_space.specs.Space.{Space, Draft, Outcome, first_reason, reason, unless}
-use Rattle.osc_space.specs.BlockWords.{Stretch, stretches, words_in, block_word, block_mappings, frame_at, zero_block, header_jobs}
-use Rattle.osc_space.specs.Fork.{table_frame_of, heap_frame_of}
-use Rattle.osc_space.specs.Share.{Regions, shared_frames}
-use Rattle.osc_space.specs.Malloc.{malloc_in, malloc_plan, malloc_reasons, block_need, fill_block, grant_object, place_block}
-use Rattle.osc_space.specs.Agree.{is_waiting, IsLive, IsKept, IsBlockOf, ObjectsAgree}
+use Rattle.osc_space.specs.Space.{Space, Draft}
+use Rattle.osc_space.specs.BlockWords.{Stretch, stretches, words_in, block_word, zero_block, header_jobs}
+use Rattle.osc_space.specs.Fork.{heap_frame_of}
+use Rattle.osc_space.specs.Share.{Regions}
+use Rattle.osc_space.specs.Malloc.{block_need}
 use Rattle.osc_space.specs.WordLaws.{IsFrameOf}
-use Rattle.osc_space.proofs.PlanLawProofs.{range_at}
-use Rattle.osc_space.proofs.ObjectLawProofs.{pages_are_granted_once, mark-grant, grants_keep}
-use Rattle.osc_parts.specs.Frames.{among, frames_held, FramesFit, Trades}
-use Rattle.osc_parts.specs.Settled.{tables_of, PartsFit, Settled}
-use Rattle.osc_parts.specs.Jobs.{AllWriteWhere, Pushed, IsOwn, PushesOwn}
-use Rattle.osc_parts.proofs.JobCounts.{pushed_both, pushed_weaker, IsOf, map_pages-links, cut-few, length-mapped}
-use Rattle.osc_parts.proofs.Lists.{grown, get_append, get_end, get_within, any_at}
-use Rattle.osc_parts.proofs.Trading.{held_is, held_once, held_taken, fit_after, over, trades_both, back-trades, map_pages-trades}
-use Rattle.osc_parts.proofs.Shapes.{map_pages-adds, map_pages-agrees, map_pages-taken}
-use Rattle.osc_parts.proofs.Settling.{settled_frames, heap_frames, Rest, parts_after, keeps_fits, unchanged_fits}
-use Rattle.osc_parts.proofs.Blocks.{room_is_room, room_bytes, page_member, no_piece, HasFrames, lies_at, block_frame, frame_found, all_weaker, all_elsewhere, fill_where, block_reads}
+use Rattle.osc_parts.specs.Frames.{among, FramesFit, Trades}
+use Rattle.osc_parts.specs.Settled.{Settled}
+use Rattle.osc_parts.specs.Jobs.{Pushed}
+use Rattle.osc_parts.proofs.JobCounts.{cut-few, length-mapped}
+use Rattle.osc_parts.proofs.Trading.{held_is, held_once, held_taken, fit_after, back-trades}
+use Rattle.osc_parts.proofs.Settling.{settled_frames, heap_frames}
+use Rattle.osc_parts.proofs.Blocks.{room_is_room, no_piece, HasFrames, lies_at, block_frame, all_weaker, all_elsewhere, fill_where}
 
 pub back_taken : (count page : ℕ) (b : Backing) (f : ℕ) → slice_get b.free f ≡ Some false → slice_get (back count page b).free f ≡ Some false
 unfolding back

@@ -1,23 +1,22 @@
 -- A free of the plain heap: pages that hold no block any more are unmapped, and the block is given back.
-use Rattle.std.proofs.Common.{ℕ, zero, suc, ◌+◌, ◌-◌, ◌*◌, ◌/◌, ◌%◌, ◌≡◌, ◌≢◌, ◌<◌, ◌≤◌, ◌==◌, nat_lt, nat_le, ◌&&◌, ◌||◌, Bool, true, false, not, cond, Option, Some, None, is_some, option_map, List, [], ◌∷◌, ◌++◌, length, map, filter, find, slice_get, arith, refl, ap, sym, ◌∙◌, subst, ◌⊎◌, inl, inr}
-use Rattle.std.specs.List.{list_any, range_with_len}
+use Rattle.std.proofs.Common.{ℕ, zero, suc, ◌+◌, ◌*◌, ◌/◌, ◌≡◌, ◌≤◌, ◌==◌, nat_lt, nat_le, ◌&&◌, ◌||◌, Bool, true, false, not, cond, Option, Some, None, is_some, option_map, List, [], ◌∷◌, ◌++◌, length, map, filter, slice_get, arith, refl, ap, sym, ◌∙◌, subst}
+use Rattle.std.specs.List.{range_with_len}
 use Rattle.std.proofs.lemmas.Bool.Decides.{nat_tests}
 use Rattle.std.proofs.lemmas.List.FromFn.{length-map-range_with_len}
 use Rattle.osc_word.specs.declared.calls.Answer.{Answer}
 use Rattle.osc_word.specs.declared.calls.Answer.TheVariants as answer
 use Rattle.osc_word.specs.declared.job_list.Job.{Job}
 use Rattle.osc_word.specs.declared.settings.HeapKind.TheVariants.{Plain}
-use Rattle.osc_word.specs.AddressMap.{first_shadow_page, is_shadow, is_canonical_page, is_in_map}
+use Rattle.osc_word.specs.AddressMap.{first_shadow_page, is_canonical_page, is_in_map}
 use Rattle.osc_sv39.specs.declared.entries.Mapping.{Mapping}
 use Rattle.osc_class.specs.Rooms.{shadow_pages}
 use Rattle.osc_slot.specs.declared.Block.{Block}
-use Rattle.osc_slot.specs.Areas.{IsPlaced, block_at_slot}
+use Rattle.osc_slot.specs.Areas.{IsPlaced}
 use Rattle.osc_slot.specs.Slots.{is_held, is_covered, is_on, is_block}
 use Rattle.osc_slot.specs.Heap.{Heap, without_block, release, frame_of, block_of_user}
-use Rattle.osc_slot.proofs.Bounds.{pages_within, start_page}
+use Rattle.osc_slot.proofs.Bounds.{pages_within}
 use Rattle.osc_slot.proofs.HeldBlocks.{is_block_self, same_block, found}
-use Rattle.osc_slot.proofs.Fresh.{placed_is}
-use Rattle.osc_paging.specs.KeptTables.{KeptTables, mapping_at, root_of}
+use Rattle.osc_paging.specs.KeptTables.{mapping_at}
 use Rattle.osc_paging.specs.KeptTables.{frame_of as table_over}
 use Rattle.osc_paging.specs.TableChanges.{Changed, unmap_page}
 use Rattle.osc_paging.specs.Agree.{AgreesAfter}
@@ -25,27 +24,26 @@ use Rattle.osc_paging.specs.CopyLaws.{KeepsTaken}
 use Rattle.osc_paging.proofs.TableLawProofs.{unmapping_keeps}
 use Rattle.osc_paging.proofs.Others.{work_elsewhere_keeps}
 use Rattle.osc_space.specs.LeafFlags.{read_write_at}
-use Rattle.osc_space.specs.Space.{Space, Draft, Outcome, Closing, GivesBack}
+use Rattle.osc_space.specs.Space.{Space, Draft, GivesBack}
 use Rattle.osc_space.specs.Fork.{table_frame_of}
 use Rattle.osc_space.specs.Share.{Regions}
 use Rattle.osc_space.specs.Free.{unmap_all, clear_jobs}
 use Rattle.osc_space.specs.Finish.{finished, give_blocks}
 use Rattle.osc_space.specs.PlainHeap.{emptied_pages, unmap_emptied, let_go_plain, plain_free_of, plain_free_plan}
 use Rattle.osc_space.specs.Agree.{PlainAgrees}
-use Rattle.osc_parts.specs.Frames.{among, vacant, FramesFit, Trades}
+use Rattle.osc_parts.specs.Frames.{among, FramesFit, Trades}
 use Rattle.osc_parts.specs.Settled.{tables_of, PartsFit, Settled}
 use Rattle.osc_parts.specs.Jobs.{Pushed, IsOwn, PushesOwn}
 use Rattle.osc_parts.specs.PlanFits.{PlanFits}
 use Rattle.osc_parts.specs.PlainLaws.{PlainFreesFit}
-use Rattle.osc_parts.proofs.Lists.{any_at}
 use Rattle.osc_parts.proofs.Trading.{over, TradesIn, held_is, fit_after, trades_none, trades_both, unmap_page-trades}
 use Rattle.osc_parts.proofs.Shapes.{Unmaps, same_shape, then, unmap_page-shape, unmap_page-free, unmap_page-pages}
 use Rattle.osc_parts.proofs.JobCounts.{IsOf, pushed_none, pushed_both, pushed_weaker, unmap_page-pushes}
-use Rattle.osc_parts.proofs.Settling.{settled_frames, Rest, parts_after, same_taken, unchanged_fits}
+use Rattle.osc_parts.proofs.Settling.{settled_frames, parts_after, same_taken, unchanged_fits}
 use Rattle.osc_parts.proofs.Flushing.{clears_where, clears_elsewhere, length-filtered}
 use Rattle.osc_parts.proofs.Giving.{Finishes, finishes}
 use Rattle.osc_parts.proofs.Waiting.{is_in}
-use Rattle.osc_parts.proofs.PlainMalloc.{block_low, block_high, same_none}
+use Rattle.osc_parts.proofs.PlainMalloc.{block_high, same_none}
 
 -- ---- pages of a list are unmapped
 list-trades : (s : Space) (pages : List ℕ) (c : Changed) → ((q : ℕ) → is_in pages q ≡ true → first_shadow_page ≤ q) → TradesIn s c (unmap_all pages c)

@@ -1,6 +1,6 @@
 -- A malloc of the plain heap: what it makes of a process's parts.
-use Rattle.std.proofs.Common.{ℕ, zero, suc, ◌+◌, ◌-◌, ◌*◌, ◌/◌, ◌%◌, ◌^◌, ◌≡◌, ◌≢◌, ◌<◌, ◌≤◌, ◌==◌, nat_lt, nat_le, ◌&&◌, ◌||◌, Bool, true, false, not, cond, Option, Some, None, is_some, option_map, List, [], ◌∷◌, ◌++◌, length, map, slice_get, arith, refl, ap, sym, ◌∙◌, subst, ◌⊎◌, inl, inr}
-use Rattle.std.specs.List.{list_any, range_with_len}
+use Rattle.std.proofs.Common.{ℕ, ◌+◌, ◌-◌, ◌*◌, ◌/◌, ◌≡◌, ◌<◌, ◌≤◌, nat_lt, nat_le, ◌&&◌, ◌||◌, Bool, true, false, cond, Option, Some, None, is_some, option_map, List, [], ◌∷◌, length, map, slice_get, arith, refl, ap, sym, ◌∙◌, subst}
+use Rattle.std.specs.List.{range_with_len}
 use Rattle.std.proofs.lemmas.Bool.Decides.{nat_tests}
 use Rattle.std.proofs.lemmas.Option.{slice_get-map}
 use Rattle.std.proofs.lemmas.List.FromFn.{length-map-range_with_len}
@@ -8,27 +8,27 @@ use Rattle.std.proofs.Math.Nat.{mul-le-mul}
 use Rattle.osc_word.specs.declared.calls.Answer.{Answer}
 use Rattle.osc_word.specs.declared.calls.Answer.TheVariants as answer
 use Rattle.osc_word.specs.declared.settings.HeapKind.TheVariants.{Plain}
-use Rattle.osc_word.specs.AddressMap.{first_shadow_page, is_shadow, is_canonical_page, is_in_map}
+use Rattle.osc_word.specs.AddressMap.{is_canonical_page, is_in_map}
 use Rattle.osc_sv39.specs.declared.entries.Mapping.{Mapping}
 use Rattle.osc_class.specs.declared.Room.{Room}
 use Rattle.osc_class.specs.declared.Room.TheVariants.{Small, Pages}
 use Rattle.osc_class.specs.Rooms.{room_of, shadow_pages, IsRoom}
 use Rattle.osc_slot.specs.declared.Block.{Block}
 use Rattle.osc_slot.specs.declared.HeapPage.{HeapPage}
-use Rattle.osc_slot.specs.Areas.{area_of, start_of, page_of, slots_in, block_at_slot}
+use Rattle.osc_slot.specs.Areas.{area_of, start_of, page_of, slots_in}
 use Rattle.osc_slot.specs.Slots.{Holds, is_covered, is_on, need_over}
 use Rattle.osc_slot.specs.Slots.{beside}
 use Rattle.osc_slot.specs.Heap.{HeapAndFree, place, next_block, frame_of, free_count}
 use Rattle.osc_slot.proofs.Backing.{free_count-le}
 use Rattle.osc_slot.proofs.Bounds.{pages_within, in_area, start_page}
-use Rattle.osc_paging.specs.KeptTables.{KeptTables, mapping_at, need, root_of, levels_of}
-use Rattle.osc_paging.specs.TableChanges.{Changed, map_pages}
+use Rattle.osc_paging.specs.KeptTables.{mapping_at, need, root_of}
+use Rattle.osc_paging.specs.TableChanges.{map_pages}
 use Rattle.osc_paging.specs.TableLaws.{MapsPages}
 use Rattle.osc_paging.specs.Agree.{AgreesAfter}
 use Rattle.osc_paging.specs.CopyLaws.{KeepsTaken}
 use Rattle.osc_paging.proofs.TableLawProofs.{mappings_map_pages}
 use Rattle.osc_space.specs.LeafFlags.{read_write_at}
-use Rattle.osc_space.specs.Space.{Space, Draft, Keeps, first_reason, reason, unless}
+use Rattle.osc_space.specs.Space.{Draft, Keeps, first_reason, reason, unless}
 use Rattle.osc_space.specs.BlockWords.{mappings_of, frame_at}
 use Rattle.osc_space.specs.Fork.{heap_frame_of}
 use Rattle.osc_space.specs.Share.{Regions}
@@ -36,15 +36,15 @@ use Rattle.osc_space.specs.Malloc.{block_need, fill_block, place_block}
 use Rattle.osc_space.specs.PlainHeap.{plain_reasons, place_plain, plain_malloc_in, plain_malloc_plan}
 use Rattle.osc_space.specs.Agree.{PlainAgrees}
 use Rattle.osc_space.proofs.PlanLawProofs.{range_at}
-use Rattle.osc_parts.specs.Frames.{among, FramesFit, Trades}
+use Rattle.osc_parts.specs.Frames.{among, Trades}
 use Rattle.osc_parts.specs.Settled.{tables_of, PartsFit, Settled}
-use Rattle.osc_parts.specs.Jobs.{Pushed, IsOwn, PushesOwn}
+use Rattle.osc_parts.specs.Jobs.{Pushed, IsOwn}
 use Rattle.osc_parts.specs.PlanFits.{PlanFits}
 use Rattle.osc_parts.specs.PlainLaws.{PlainMallocsFit}
 use Rattle.osc_parts.proofs.Trading.{held_is, trades_both, map_pages-trades}
 use Rattle.osc_parts.proofs.Shapes.{AllRead, map_pages-adds, map_pages-agrees, map_pages-taken}
 use Rattle.osc_parts.proofs.JobCounts.{IsOf, pushed_both, pushed_weaker, map_pages-links}
-use Rattle.osc_parts.proofs.Settling.{Rest, parts_after, keeps_fits, unchanged_fits}
+use Rattle.osc_parts.proofs.Settling.{parts_after, keeps_fits, unchanged_fits}
 use Rattle.osc_parts.proofs.Blocks.{room_is_room, page_member, frame_found, all_read, taken_small}
 use Rattle.osc_parts.proofs.PlacingParts as placing
 use Rattle.osc_parts.proofs.MallocParts.{high_enough, some_root}

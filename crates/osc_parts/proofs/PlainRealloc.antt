@@ -1,6 +1,5 @@
 -- A realloc of the plain heap, whether its block stays or moves.
-use Rattle.std.proofs.Common.{ℕ, zero, suc, ◌+◌, ◌-◌, ◌*◌, ◌/◌, ◌%◌, ◌≡◌, ◌≢◌, ◌<◌, ◌≤◌, ◌==◌, nat_lt, nat_le, min, ◌&&◌, ◌||◌, Bool, true, false, not, cond, Option, Some, None, is_some, List, [], ◌∷◌, ◌++◌, length, map, slice_get, arith, refl, ap, sym, ◌∙◌, subst, ◌⊎◌, inl, inr}
-use Rattle.std.specs.List.{list_any}
+use Rattle.std.proofs.Common.{ℕ, ◌+◌, ◌*◌, ◌/◌, ◌%◌, ◌≡◌, ◌≤◌, Bool, true, false, cond, Option, Some, None, List, [], ◌∷◌, ◌++◌, length, arith, refl, ap, sym, ◌∙◌, subst, ◌⊎◌}
 use Rattle.std.proofs.lemmas.Bool.Decides.{nat_tests}
 use Rattle.osc_word.specs.declared.calls.Answer.{Answer}
 use Rattle.osc_word.specs.declared.calls.Answer.TheVariants as answer
@@ -8,26 +7,23 @@ use Rattle.osc_word.specs.declared.job_list.Job.{Job}
 use Rattle.osc_word.specs.declared.settings.HeapKind.TheVariants.{Plain}
 use Rattle.osc_class.specs.Rooms.{room_of, shadow_pages, block_bytes}
 use Rattle.osc_slot.specs.declared.Block.{Block}
-use Rattle.osc_slot.specs.declared.HeapPage.{HeapPage}
-use Rattle.osc_slot.specs.Areas.{IsPlaced, block_at_slot}
-use Rattle.osc_slot.specs.Slots.{is_room, is_held, is_on, is_block}
-use Rattle.osc_slot.specs.Heap.{HeapAndFree, place, next_block, block_of_user, free_count}
+use Rattle.osc_slot.specs.Areas.{IsPlaced}
+use Rattle.osc_slot.specs.Slots.{is_room, is_held, is_block}
+use Rattle.osc_slot.specs.Heap.{next_block, block_of_user, free_count}
 use Rattle.osc_slot.proofs.InOrder.{any-insert}
 use Rattle.osc_slot.proofs.Bounds.{pages_within}
 use Rattle.osc_slot.proofs.Fresh.{placed_is}
 use Rattle.osc_paging.specs.KeptTables.{need}
-use Rattle.osc_paging.specs.Agree.{AgreesAfter}
 use Rattle.osc_paging.specs.CopyLaws.{IsNoTable}
 use Rattle.osc_paging.proofs.Others.{work_elsewhere_keeps}
-use Rattle.osc_space.specs.Space.{Space, Draft, Outcome, Keeps, GivesBack, Reason, first_reason, unless, push}
+use Rattle.osc_space.specs.Space.{Draft, GivesBack, first_reason, unless, push}
 use Rattle.osc_space.specs.BlockWords.{copy_jobs, trim_jobs}
-use Rattle.osc_space.specs.Fork.{heap_frame_of}
 use Rattle.osc_space.specs.Share.{Regions}
 use Rattle.osc_space.specs.Malloc.{block_need}
-use Rattle.osc_space.specs.PlainHeap.{kept_bytes, emptied_pages, let_go_plain, plain_reasons, plain_stay, plain_move, plain_resize, plain_realloc_reasons, plain_realloc_of, plain_realloc_plan}
-use Rattle.osc_space.specs.WordLaws.{LiesInFrames, IsFrameOf}
-use Rattle.osc_parts.specs.Frames.{among, vacant, FramesFit}
-use Rattle.osc_parts.specs.Settled.{tables_of, PartsFit, Settled}
+use Rattle.osc_space.specs.PlainHeap.{kept_bytes, emptied_pages, plain_reasons, plain_stay, plain_move, plain_resize, plain_realloc_of, plain_realloc_plan}
+use Rattle.osc_space.specs.WordLaws.{IsFrameOf}
+use Rattle.osc_parts.specs.Frames.{vacant, FramesFit}
+use Rattle.osc_parts.specs.Settled.{tables_of, Settled}
 use Rattle.osc_parts.specs.Jobs.{AllWriteWhere, Pushed, IsOwn, PushesOwn}
 use Rattle.osc_parts.specs.PlanFits.{PlanFits}
 use Rattle.osc_parts.specs.PlainLaws.{PlainReallocsFit}

@@ -1,61 +1,54 @@
 -- Each realloc fits: where its block moves, where it stays, and where it is refused.
-use Rattle.std.proofs.Common.{ℕ, zero, suc, ◌+◌, ◌-◌, ◌*◌, ◌/◌, ◌%◌, ◌≡◌, ◌≢◌, ◌<◌, ◌≤◌, ◌==◌, nat_lt, nat_le, min, ◌&&◌, ◌||◌, Bool, true, false, not, cond, Option, Some, None, is_some, option_map, List, [], ◌∷◌, ◌++◌, length, map, filter, slice_get, arith, refl, ap, sym, ◌∙◌, subst, ◌⊎◌, inl, inr, ⊎_elim}
-use Rattle.std.specs.List.{list_any, cons_option}
+use Rattle.std.proofs.Common.{ℕ, zero, suc, ◌+◌, ◌-◌, ◌*◌, ◌/◌, ◌%◌, ◌≡◌, ◌≢◌, ◌<◌, ◌≤◌, ◌==◌, nat_lt, nat_le, min, ◌&&◌, ◌||◌, Bool, true, false, not, cond, Option, Some, None, is_some, option_map, List, [], ◌∷◌, ◌++◌, length, map, slice_get, arith, refl, ap, sym, ◌∙◌, subst, ◌⊎◌, inl, inr}
+use Rattle.std.specs.List.{cons_option}
 use Rattle.std.proofs.lemmas.Bool.Decides.{nat_tests}
 use Rattle.std.proofs.lemmas.List.{length-append, map-append}
-use Rattle.std.proofs.lemmas.List.Folds.{list_any-append}
 use Rattle.std.proofs.lemmas.List.Elements.{filter_map-append}
 use Rattle.osc_word.specs.declared.calls.Answer.{Answer}
 use Rattle.osc_word.specs.declared.calls.Answer.TheVariants as answer
 use Rattle.osc_word.specs.declared.job_list.Job.{Job}
 use Rattle.osc_word.specs.declared.settings.HeapKind.TheVariants.{Oscar}
-use Rattle.osc_word.specs.AddressMap.{first_shadow_page, is_shadow, is_canonical_page}
-use Rattle.osc_class.specs.declared.Room.{Room}
-use Rattle.osc_class.specs.Rooms.{room_of, shadow_pages, block_bytes, IsRoom}
+use Rattle.osc_word.specs.AddressMap.{is_shadow, is_canonical_page}
+use Rattle.osc_class.specs.Rooms.{room_of, shadow_pages, block_bytes}
 use Rattle.osc_slot.specs.declared.Block.{Block}
-use Rattle.osc_slot.specs.Areas.{IsPlaced, block_at_slot}
-use Rattle.osc_slot.specs.Slots.{is_room, is_block, is_held, is_covered, is_on}
-use Rattle.osc_slot.specs.Heap.{Heap, HeapAndFree, IsHeap, ArePlaced, place, next_block, frame_of, free_count}
+use Rattle.osc_slot.specs.Areas.{IsPlaced}
+use Rattle.osc_slot.specs.Slots.{is_block, is_held, is_on}
+use Rattle.osc_slot.specs.Heap.{HeapAndFree, ArePlaced, place, next_block, frame_of, free_count}
 use Rattle.osc_slot.proofs.Bounds.{pages_within}
 use Rattle.osc_slot.proofs.HeldBlocks.{same_room, same_block, found}
 use Rattle.osc_slot.proofs.Fresh.{placed_is}
-use Rattle.osc_paging.specs.KeptTables.{KeptTables, mapping_at, need}
-use Rattle.osc_paging.specs.CopyLaws.{KeepsTaken}
+use Rattle.osc_paging.specs.KeptTables.{mapping_at, need}
 use Rattle.osc_space.specs.declared.ObjectFact.{ObjectFact}
 use Rattle.osc_space.specs.LeafFlags.{read_write_at}
-use Rattle.osc_space.specs.Objects.{Seen, mark, next_page, is_live, has_page, is_live_page, kill, killed, fact, facts, grant, granted_at, object_at, AreGranted}
-use Rattle.osc_space.specs.Header.{Found, object_reasons, block_of}
-use Rattle.osc_space.specs.Space.{Space, Draft, Terms, Outcome, Closing, GivesBack, Reason, reason, first_reason, unless, unchanged}
+use Rattle.osc_space.specs.Objects.{Seen, mark, next_page, is_live, has_page, is_live_page, kill, killed, fact, facts, granted_at, object_at}
+use Rattle.osc_space.specs.Header.{object_reasons, block_of}
+use Rattle.osc_space.specs.Space.{Space, Draft, Terms, GivesBack, Reason, first_reason, unless}
 use Rattle.osc_space.specs.BlockWords.{block_mappings, frame_at, zero_block, header_jobs, copy_jobs, trim_jobs}
 use Rattle.osc_space.specs.Share.{Regions}
 use Rattle.osc_space.specs.Malloc.{malloc_in, block_need}
 use Rattle.osc_space.specs.Free.{let_wait, waiting_blocks}
-use Rattle.osc_space.specs.Realloc.{stays, frames_for, realloc_in, realloc_made, realloc_reasons, realloc_seen, realloc_plan}
-use Rattle.osc_space.specs.Finish.{finished, give_blocks}
-use Rattle.osc_space.specs.Agree.{is_waiting, AreApart, IsLive, IsKept, IsBlockOf, ObjectsAgree}
+use Rattle.osc_space.specs.Realloc.{stays, frames_for, realloc_made, realloc_reasons, realloc_seen, realloc_plan}
+use Rattle.osc_space.specs.Agree.{IsLive, IsKept, IsBlockOf, ObjectsAgree}
 use Rattle.osc_space.specs.WordLaws.{IsFrameOf}
 use Rattle.osc_space.proofs.ObjectLawProofs.{pages_are_granted_once, looks_find_objects, grants_keep, mark-grant, mark-kill}
-use Rattle.osc_parts.specs.Frames.{Trades}
 use Rattle.osc_parts.specs.Settled.{tables_of, Settled}
-use Rattle.osc_parts.specs.Jobs.{AllWriteWhere}
 use Rattle.osc_parts.specs.PlanFits.{PlanFits}
 use Rattle.osc_parts.specs.FreeLaws.{HasTerms}
 use Rattle.osc_parts.specs.ReallocLaws.{ReallocsFit}
-use Rattle.osc_parts.proofs.Lists.{grown, get_append, get_end, get_within}
-use Rattle.osc_parts.proofs.Killing.{kill_get, killed_at, killed_here, killed_other, kill_other, kill_own, one_owner}
+use Rattle.osc_parts.proofs.Lists.{grown, get_append}
+use Rattle.osc_parts.proofs.Killing.{killed_at, killed_here, killed_other, kill_own, one_owner}
 use Rattle.osc_parts.proofs.Trading.{trades_none}
 use Rattle.osc_parts.proofs.Shapes.{unmap_all-pages}
 use Rattle.osc_parts.proofs.JobCounts.{zeroes_few, copies_few, trims_few}
 use Rattle.osc_parts.proofs.Settling.{unchanged_fits, same_taken}
 use Rattle.osc_parts.proofs.Blocks.{room_is_room, room_holds, HasFrames, lies_at, frame_found, where_append, fill_where, copy_where, trim_where}
-use Rattle.osc_parts.proofs.Waiting.{is_in, covers, blocks_of, lies, object_covered, Different, AllHeld}
-use Rattle.osc_parts.proofs.Giving.{Finishes}
+use Rattle.osc_parts.proofs.Waiting.{is_in, covers, lies, Different, AllHeld}
 use Rattle.osc_parts.proofs.LettingGo.{ObjectsStand, stand, waiting_are_held, waiting_are_different, is_held_waiting, left_agrees}
 use Rattle.osc_parts.proofs.MallocParts.{Mallocs, no_want}
 use Rattle.osc_parts.proofs.MallocParts as malloc
 use Rattle.osc_parts.proofs.FreeParts.{Frees, waits_objects}
 use Rattle.osc_parts.proofs.FreeReturn.{taken_lives}
-use Rattle.osc_parts.proofs.ReallocParts.{at_place, Reallocs, after, died, is_granted, new_now, live_other, mapped_now, new_mapped, ends, last, realloc_fits}
+use Rattle.osc_parts.proofs.ReallocParts.{Reallocs, after, died, is_granted, new_now, live_other, mapped_now, new_mapped, ends, last, realloc_fits}
 
 -- ---- reasons
 after_object : (xs ys : List Reason) → first_reason (xs ++ ys) ≡ None → (first_reason xs ≡ None) × (first_reason ys ≡ None)

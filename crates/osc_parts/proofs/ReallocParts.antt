@@ -1,25 +1,25 @@
 -- A realloc that is not refused: what both kinds of it have in common.
-use Rattle.std.proofs.Common.{ℕ, zero, suc, ◌+◌, ◌-◌, ◌*◌, ◌/◌, ◌%◌, ◌^◌, ◌≡◌, ◌≢◌, ◌<◌, ◌≤◌, ◌==◌, nat_lt, nat_le, ◌&&◌, ◌||◌, Bool, true, false, not, cond, Option, Some, None, is_some, option_map, List, [], ◌∷◌, ◌++◌, length, map, filter, slice_get, arith, refl, ap, sym, ◌∙◌, subst, ◌⊎◌, inl, inr, ⊎_elim}
-use Rattle.std.specs.List.{list_any, range_with_len}
+use Rattle.std.proofs.Common.{ℕ, zero, suc, ◌+◌, ◌-◌, ◌*◌, ◌/◌, ◌≡◌, ◌<◌, ◌≤◌, nat_lt, nat_le, ◌&&◌, ◌||◌, Bool, true, false, cond, Option, Some, None, is_some, List, [], ◌∷◌, ◌++◌, length, map, slice_get, arith, refl, ap, sym, ◌∙◌, subst}
+use Rattle.std.specs.List.{list_any}
 use Rattle.std.proofs.lemmas.Bool.Decides.{nat_tests}
 use Rattle.std.proofs.lemmas.List.Folds.{list_any-append}
 use Rattle.std.proofs.lemmas.List.FromFn.{length-map-range_with_len}
 use Rattle.osc_word.specs.declared.calls.Answer.{Answer}
 use Rattle.osc_word.specs.declared.job_list.Job.{Job}
 use Rattle.osc_word.specs.declared.settings.HeapKind.TheVariants.{Oscar}
-use Rattle.osc_word.specs.AddressMap.{first_shadow_page, is_shadow, is_canonical_page, is_in_map}
+use Rattle.osc_word.specs.AddressMap.{first_shadow_page, is_shadow, is_in_map}
 use Rattle.osc_sv39.specs.declared.entries.Mapping.{Mapping}
 use Rattle.osc_sv39.specs.Walk.{piece}
-use Rattle.osc_class.specs.Rooms.{room_of, shadow_pages}
+use Rattle.osc_class.specs.Rooms.{shadow_pages}
 use Rattle.osc_slot.specs.declared.Block.{Block}
 use Rattle.osc_slot.specs.Slots.{is_held}
-use Rattle.osc_slot.specs.Heap.{Heap, IsHeap, frame_of, free_count}
+use Rattle.osc_slot.specs.Heap.{Heap, IsHeap, free_count}
 use Rattle.osc_slot.proofs.Backing.{free_count-le}
 use Rattle.osc_slot.proofs.Bounds.{pages_positive}
 use Rattle.osc_paging.specs.declared.TableFrame.{TableFrame}
-use Rattle.osc_paging.specs.KeptTables.{KeptTables, mapping_at, root_of, levels_of, need, need_below, missing, pieces_over, lack}
+use Rattle.osc_paging.specs.KeptTables.{mapping_at, root_of, need, need_below, missing, pieces_over}
 use Rattle.osc_paging.specs.KeptTables.{frame_of as table_over}
-use Rattle.osc_paging.specs.TableChanges.{Changed, map_pages}
+use Rattle.osc_paging.specs.TableChanges.{map_pages}
 use Rattle.osc_paging.specs.TableLaws.{MapsPages}
 use Rattle.osc_paging.specs.Agree.{AgreesAfter}
 use Rattle.osc_paging.specs.CopyLaws.{IsNoTable, KeepsTaken}
@@ -28,32 +28,31 @@ use Rattle.osc_paging.proofs.Elsewhere.{taking_keeps}
 use Rattle.osc_paging.proofs.Others.{work_elsewhere_keeps}
 use Rattle.osc_space.specs.declared.ObjectFact.{ObjectFact}
 use Rattle.osc_space.specs.LeafFlags.{read_write_at}
-use Rattle.osc_space.specs.Objects.{Seen, mark, next_page, is_live, has_page, is_live_page, is_in_leaf, leaf_dead, kill, killed, fact, grant, granted_at, AreGranted}
-use Rattle.osc_space.specs.Header.{block_of}
-use Rattle.osc_space.specs.Space.{Space, Draft, Terms, Closing, GivesBack, push}
+use Rattle.osc_space.specs.Objects.{Seen, mark, next_page, is_live, has_page, is_live_page, is_in_leaf, leaf_dead, fact, grant, granted_at, AreGranted}
+use Rattle.osc_space.specs.Space.{Space, Draft, Terms, GivesBack, push}
 use Rattle.osc_space.specs.BlockWords.{block_mappings, frame_at}
 use Rattle.osc_space.specs.Fork.{table_frame_of, heap_frame_of}
 use Rattle.osc_space.specs.Share.{Regions}
 use Rattle.osc_space.specs.Malloc.{grant_object, map_shadows}
-use Rattle.osc_space.specs.Free.{unmap_object, kill_object, waiting_facts, flush}
+use Rattle.osc_space.specs.Free.{unmap_object, kill_object, waiting_facts}
 use Rattle.osc_space.specs.Realloc.{replace_object}
 use Rattle.osc_space.specs.Finish.{finished, give_blocks}
-use Rattle.osc_space.specs.Agree.{IsLive, ObjectsAgree}
+use Rattle.osc_space.specs.Agree.{ObjectsAgree}
 use Rattle.osc_space.specs.WordLaws.{IsFrameOf}
 use Rattle.osc_space.specs.PlanLaws.{is_given_up, table_after}
 use Rattle.osc_space.proofs.PlanLawProofs.{flush_gives_up}
 use Rattle.osc_space.proofs.ObjectLawProofs.{pages_are_granted_once, mark-grant, mark-kill, grants_keep}
-use Rattle.osc_parts.specs.Frames.{among, vacant, one_where, frames_held, FramesFit, Trades}
+use Rattle.osc_parts.specs.Frames.{among, vacant, one_where, FramesFit, Trades}
 use Rattle.osc_parts.specs.Settled.{tables_of, PartsFit, Settled}
 use Rattle.osc_parts.specs.Jobs.{AllWriteWhere, Pushed, IsOwn, PushesOwn}
 use Rattle.osc_parts.specs.PlanFits.{PlanFits}
 use Rattle.osc_parts.specs.FreeLaws.{HasTerms}
 use Rattle.osc_parts.proofs.Lists.{get_append, get_end, get_within, any_at}
-use Rattle.osc_parts.proofs.Killing.{killed_other, kill_other, kill_own}
+use Rattle.osc_parts.proofs.Killing.{killed_other, kill_other}
 use Rattle.osc_parts.proofs.Trading.{held_is, held_once, held_taken, fit_after, trades_both, unmap_all-trades, map_pages-trades}
 use Rattle.osc_parts.proofs.Shapes.{Unmaps, unmap_all-shape, unmap_all-free, unmap_all-pages, unmap_all-agrees, map_pages-adds, map_pages-agrees, map_pages-taken}
 use Rattle.osc_parts.proofs.JobCounts.{IsOf, pushed_both, pushed_weaker, unmap_all-pushes, map_pages-links}
-use Rattle.osc_parts.proofs.Settling.{settled_frames, Rest, parts_after}
+use Rattle.osc_parts.proofs.Settling.{settled_frames, parts_after}
 use Rattle.osc_parts.proofs.Blocks.{no_piece, HasFrames, block_frame, all_weaker, all_elsewhere, block_reads}
 use Rattle.osc_parts.proofs.Flushing.{Flushed, flushes}
 use Rattle.osc_parts.proofs.Giving.{Finishes, finishes}

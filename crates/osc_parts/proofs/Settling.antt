@@ -1,27 +1,26 @@
 -- What a change that only trades frames keeps of a process's parts.
-use Rattle.std.proofs.Common.{ℕ, zero, suc, ◌+◌, ◌*◌, ◌/◌, ◌≡◌, ◌≢◌, ◌<◌, ◌≤◌, ◌==◌, nat_lt, ◌&&◌, ◌||◌, Bool, true, false, not, cond, Option, Some, None, is_some, List, [], ◌∷◌, ◌++◌, length, map, filter, slice_get, slice_set, arith, refl, ap, sym, ◌∙◌, subst}
+use Rattle.std.proofs.Common.{ℕ, zero, suc, ◌+◌, ◌*◌, ◌≡◌, ◌<◌, ◌==◌, nat_lt, Bool, true, false, cond, Some, is_some, List, [], ◌∷◌, length, map, filter, slice_get, arith, refl, ap, sym, ◌∙◌}
 use Rattle.std.proofs.lemmas.Bool.Decides.{nat_tests}
 use Rattle.osc_word.specs.declared.settings.HeapKind.{HeapKind}
 use Rattle.osc_word.specs.declared.calls.Answer.{Answer}
 use Rattle.osc_word.specs.AddressMap.{is_shared, is_in_map}
-use Rattle.osc_sv39.specs.declared.entries.Mapping.{Mapping}
 use Rattle.osc_slot.specs.declared.HeapPage.{HeapPage}
-use Rattle.osc_slot.specs.Heap.{Heap, IsHeap, FramesAgree, AreTaken}
+use Rattle.osc_slot.specs.Heap.{IsHeap, FramesAgree, AreTaken}
 use Rattle.osc_paging.specs.declared.Mapped.{Mapped}
 use Rattle.osc_paging.specs.KeptTables.{KeptTables, mapping_at, root_of}
 use Rattle.osc_paging.specs.Agree.{AgreesAfter}
 use Rattle.osc_paging.specs.CopyLaws.{KeepsTaken}
-use Rattle.osc_space.specs.Space.{Space, Draft, Outcome, Keeps, unchanged}
+use Rattle.osc_space.specs.Space.{Space, Draft, Keeps, unchanged}
 use Rattle.osc_space.specs.Finish.{finished}
-use Rattle.osc_space.specs.Fork.{heap_frame_of, frames_owned}
-use Rattle.osc_space.specs.Share.{Regions, holders, shared_pages, next_shared_page}
+use Rattle.osc_space.specs.Fork.{heap_frame_of}
+use Rattle.osc_space.specs.Share.{Regions, holders, shared_pages}
 use Rattle.osc_space.specs.Agree.{HeapAgrees, RegionsAgree, SpaceAgrees}
 use Rattle.osc_parts.specs.Frames.{among, vacant, one_where, frames_held, FramesFit, Trades}
 use Rattle.osc_parts.specs.Settled.{tables_of, PartsFit, Settled}
 use Rattle.osc_parts.specs.Jobs.{IsOwn, PushesOwn}
 use Rattle.osc_parts.specs.PlanFits.{PlanFits}
 use Rattle.osc_parts.proofs.JobCounts.{pushed_none}
-use Rattle.osc_parts.proofs.Trading.{held_is, held_once, held_taken, fit_after, fits_quiet, quiet_apart, quiet_taken, vacant_once, vacant_there, trades_none}
+use Rattle.osc_parts.proofs.Trading.{held_is, held_taken, fit_after, fits_quiet, quiet_apart, quiet_taken, vacant_there, trades_none}
 
 -- ---- regions
 pub mapping_among : (test : ℕ → Bool) (n : ℕ) (ms : List Mapped) → test n ≡ true → mapping_at (filter (λ (x : Mapped). test x.number) ms) n ≡ mapping_at ms n

@@ -1,16 +1,15 @@
 -- What changes of tables leave of the tables themselves.
-use Rattle.std.proofs.Common.{ℕ, zero, suc, ◌+◌, ◌*◌, ◌/◌, ◌≡◌, ◌≢◌, ◌<◌, ◌≤◌, ◌==◌, nat_lt, nat_le, ◌&&◌, ◌||◌, Bool, true, false, not, cond, Option, Some, None, is_some, List, [], ◌∷◌, ◌++◌, length, map, filter, position, slice_get, slice_set, arith, refl, ap, sym, ◌∙◌, subst}
+use Rattle.std.proofs.Common.{ℕ, zero, suc, ◌+◌, ◌/◌, ◌≡◌, ◌==◌, nat_lt, nat_le, ◌&&◌, Bool, true, false, cond, Option, Some, None, is_some, List, [], ◌∷◌, position, slice_get, arith, refl, ap, ◌∙◌}
 use Rattle.std.specs.List.{range_with_len}
 use Rattle.std.proofs.lemmas.Bool.Decides.{nat_tests}
 use Rattle.osc_sv39.specs.declared.entries.Mapping.{Mapping}
 use Rattle.osc_sv39.specs.Walk.{piece}
 use Rattle.osc_slot.proofs.Backing.{get-set}
-use Rattle.osc_paging.specs.declared.TableFrame.{TableFrame}
 use Rattle.osc_paging.specs.KeptTables.{KeptTables, frame_of, mapping_at}
-use Rattle.osc_paging.specs.TableChanges.{Changed, linked, link, link_all, leaf_put, put_leaf, map_page, map_pages, leaf_cleared, unmap_page, unlinked, reclaim, table_frame, without_page}
+use Rattle.osc_paging.specs.TableChanges.{Changed, linked, link, link_all, leaf_put, map_page, map_pages, leaf_cleared, unmap_page, unlinked, reclaim, table_frame, without_page}
 use Rattle.osc_paging.specs.Agree.{AgreesAfter, ReadsAsLeaf}
 use Rattle.osc_paging.proofs.TableLists.{frame_of-with_table, frame_of-without_table, mapping_at-without_page}
-use Rattle.osc_paging.proofs.TableLawProofs.{mapping_keeps, unmapping_keeps, reclaiming_keeps}
+use Rattle.osc_paging.proofs.TableLawProofs.{mapping_keeps, unmapping_keeps}
 use Rattle.osc_space.specs.Free.{unmap_all, reclaim_all}
 
 pub record SameShape (t u : KeptTables) : Type 0 where

@@ -1,21 +1,18 @@
 -- A share that is not refused: what it makes of a process's parts, and of the others.
-use Rattle.std.proofs.Common.{ℕ, zero, suc, ◌+◌, ◌-◌, ◌*◌, ◌/◌, ◌^◌, ◌≡◌, ◌≢◌, ◌<◌, ◌≤◌, ◌==◌, nat_lt, nat_le, ◌&&◌, ◌||◌, Bool, true, false, not, cond, Option, Some, None, is_some, option_map, List, [], ◌∷◌, ◌++◌, length, map, filter, take, slice_get, slice_set, arith, refl, ap, sym, ◌∙◌, subst, ◌⊎◌, inl, inr}
-use Rattle.std.specs.List.{list_any}
+use Rattle.std.proofs.Common.{ℕ, zero, suc, ◌+◌, ◌-◌, ◌*◌, ◌/◌, ◌^◌, ◌≡◌, ◌<◌, ◌≤◌, ◌==◌, nat_lt, nat_le, ◌&&◌, Bool, true, false, cond, Option, Some, None, is_some, option_map, List, [], ◌∷◌, ◌++◌, length, map, take, slice_get, slice_set, arith, refl, ap, sym, ◌∙◌, subst}
 use Rattle.std.proofs.lemmas.Bool.Decides.{nat_tests}
-use Rattle.std.proofs.lemmas.List.{length-append}
 use Rattle.std.proofs.lemmas.Option.{slice_get-map}
 use Rattle.osc_word.specs.declared.calls.Answer.{Answer}
 use Rattle.osc_word.specs.declared.calls.Answer.TheVariants as answer
 use Rattle.osc_word.specs.declared.job_list.Job.{Job}
 use Rattle.osc_word.specs.declared.settings.HeapKind.{HeapKind}
 use Rattle.osc_word.specs.declared.settings.HeapKind.TheVariants.{Oscar, Plain}
-use Rattle.osc_word.specs.AddressMap.{is_shared, is_shadow, is_canonical_page, is_in_map}
+use Rattle.osc_word.specs.AddressMap.{is_shared, is_in_map}
 use Rattle.osc_sv39.specs.declared.entries.Mapping.{Mapping}
-use Rattle.osc_slot.specs.Heap.{frame_of, free_count}
-use Rattle.osc_slot.proofs.Backing.{length-set, free_count-give, free_count-le}
-use Rattle.osc_paging.specs.declared.Mapped.{Mapped}
+use Rattle.osc_slot.specs.Heap.{free_count}
+use Rattle.osc_slot.proofs.Backing.{free_count-give, free_count-le}
 use Rattle.osc_paging.specs.JobWords.{words_after}
-use Rattle.osc_paging.specs.KeptTables.{KeptTables, mapping_at, need, root_of, levels_of}
+use Rattle.osc_paging.specs.KeptTables.{mapping_at, need, root_of, levels_of}
 use Rattle.osc_paging.specs.TableChanges.{Changed, zero_job, map_pages}
 use Rattle.osc_paging.specs.TableLaws.{MapsPages}
 use Rattle.osc_paging.specs.Agree.{Agrees, AgreesAfter}
@@ -24,20 +21,18 @@ use Rattle.osc_paging.proofs.WordLists.{words_after-append}
 use Rattle.osc_paging.proofs.Elsewhere.{taking_keeps, jobs_elsewhere_keep}
 use Rattle.osc_paging.proofs.Others.{work_elsewhere_keeps}
 use Rattle.osc_paging.proofs.TableLawProofs.{mappings_map_pages, mappings_take_need}
-use Rattle.osc_space.specs.declared.ObjectFact.{ObjectFact}
 use Rattle.osc_space.specs.LeafFlags.{read_write_at}
-use Rattle.osc_space.specs.Objects.{is_live_page, fact}
-use Rattle.osc_space.specs.Space.{Space, Draft, Reason, reason, first_reason}
+use Rattle.osc_space.specs.Space.{Space, Draft, reason, first_reason}
 use Rattle.osc_space.specs.Fork.{frame_of_page, free_numbers, set_free}
-use Rattle.osc_space.specs.Share.{Regions, Sharing, RegionsAndFree, holders, hold, shared_pages, shared_frames, next_shared_page, share_frames, share_plan, share_reasons}
-use Rattle.osc_space.specs.Agree.{AreApart, AllTaken, IsLive, HeapAgrees, ObjectsAgree, PlainAgrees, RegionsAgree, SpaceAgrees}
+use Rattle.osc_space.specs.Share.{Regions, holders, hold, shared_pages, shared_frames, next_shared_page, share_frames, share_plan, share_reasons}
+use Rattle.osc_space.specs.Agree.{AreApart, AllTaken, HeapAgrees, SpaceAgrees}
 use Rattle.osc_space.proofs.ObjectLawProofs.{pages_are_granted_once}
 use Rattle.osc_parts.specs.Frames.{one_at, among, vacant, one_where, frames_held, frames_mapped, FramesFit}
 use Rattle.osc_parts.specs.Settled.{tables_of, PartsFit, Settled}
-use Rattle.osc_parts.specs.Jobs.{WritesWhere, AllWriteWhere, Pushed}
+use Rattle.osc_parts.specs.Jobs.{AllWriteWhere, Pushed}
 use Rattle.osc_parts.specs.OthersFit.{HoldsApart, StandsBeside}
-use Rattle.osc_parts.specs.ShareLaws.{sharing_of, shared_draft, ShareFits, SharesFit}
-use Rattle.osc_parts.proofs.Counts.{among-append, apart_once, once_apart, all_taken, taken_but, given_length}
+use Rattle.osc_parts.specs.ShareLaws.{sharing_of, ShareFits, SharesFit}
+use Rattle.osc_parts.proofs.Counts.{among-append, once_apart, all_taken, taken_but, given_length}
 use Rattle.osc_parts.proofs.Trading.{held_is, held_once, held_taken, fits, there, vacant_there, quiet_apart, quiet_taken}
 use Rattle.osc_parts.proofs.Shapes.{Adds, AllRead, map_pages-adds, map_pages-agrees, map_pages-taken}
 use Rattle.osc_parts.proofs.JobCounts.{IsOf, pushed_both, pushed_weaker, map_pages-links, length-mapped}

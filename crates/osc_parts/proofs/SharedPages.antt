@@ -1,7 +1,7 @@
 -- Free frames that become pages of a region, and how often each is held.
-use Rattle.std.proofs.Common.{ℕ, zero, suc, ◌+◌, ◌-◌, ◌*◌, ◌/◌, ◌^◌, ◌≡◌, ◌≢◌, ◌<◌, ◌≤◌, ◌==◌, nat_lt, nat_le, ◌&&◌, ◌||◌, Bool, true, false, not, cond, Option, Some, None, is_some, List, [], ◌∷◌, ◌++◌, length, map, filter, take, slice_get, slice_set, arith, refl, ap, sym, ◌∙◌, subst}
-use Rattle.std.specs.Prelude.{slice_index, slice_index_or, count_by}
-use Rattle.std.specs.List.{list_any, range_with_len}
+use Rattle.std.proofs.Common.{ℕ, zero, suc, ◌+◌, ◌-◌, ◌/◌, ◌^◌, ◌≡◌, ◌<◌, ◌≤◌, ◌==◌, nat_lt, nat_le, ◌&&◌, Bool, true, false, cond, Option, Some, None, List, [], ◌∷◌, length, map, filter, take, slice_get, slice_set, arith, refl, ap, sym, ◌∙◌, subst}
+use Rattle.std.specs.Prelude.{slice_index, slice_index_or}
+use Rattle.std.specs.List.{range_with_len}
 use Rattle.std.proofs.lemmas.Bool.Decides.{nat_tests}
 use Rattle.std.proofs.lemmas.List.Sums.{sum_by-cons}
 use Rattle.osc_word.specs.AddressMap.{is_image_or_stack, is_shared}
@@ -11,17 +11,17 @@ use Rattle.osc_slot.specs.Heap.{free_count}
 use Rattle.osc_slot.proofs.Backing.{length-set, free_count-take}
 use Rattle.osc_paging.specs.declared.Mapped.{Mapped}
 use Rattle.osc_paging.specs.declared.TableFrame.{TableFrame}
-use Rattle.osc_paging.specs.KeptTables.{KeptTables, frame_of, mapping_at, root_of, levels_of, need, need_below, missing, pieces_over}
+use Rattle.osc_paging.specs.KeptTables.{frame_of, mapping_at, root_of, levels_of, need, need_below, missing}
 use Rattle.osc_paging.specs.TableChanges.{Changed, link_all, leaf_put, map_page, map_pages, with_page}
 use Rattle.osc_paging.specs.TableLaws.{free_frames}
 use Rattle.osc_paging.proofs.Needed.{piece_mono, need_one, link_all-pages}
-use Rattle.osc_paging.proofs.TableLawProofs.{mapping_takes_need, need_splits, none_needed}
+use Rattle.osc_paging.proofs.TableLawProofs.{mapping_takes_need, need_splits}
 use Rattle.osc_space.specs.Space.{Space}
-use Rattle.osc_space.specs.Fork.{frame_of_page, image_frames, free_numbers, set_free}
+use Rattle.osc_space.specs.Fork.{frame_of_page, free_numbers, set_free}
 use Rattle.osc_space.specs.Share.{Regions, holders, hold, shared_pages, shared_frames}
 use Rattle.osc_parts.specs.Frames.{one_at, among, vacant, frames_held, Trades}
-use Rattle.osc_parts.proofs.Counts.{among-append, vacant_take, page_more}
-use Rattle.osc_parts.proofs.Trading.{over, held_is, vacant_there, shared_same, link_all-trades, trades_both}
+use Rattle.osc_parts.proofs.Counts.{vacant_take, page_more}
+use Rattle.osc_parts.proofs.Trading.{over, held_is, vacant_there, link_all-trades}
 
 -- ---- lists of free frames
 among_range : (test : ℕ → Bool) (count first f : ℕ) → among f (filter test (range_with_len first count)) ≡ cond (test f && (nat_le first f && nat_lt f (first + count))) 1 0

@@ -1,27 +1,27 @@
 -- What each change of a process's memory does to its frames: it takes free ones and gives its own.
-use Rattle.std.proofs.Common.{ℕ, zero, suc, ◌+◌, ◌/◌, ◌≡◌, ◌≢◌, ◌<◌, ◌≤◌, ◌==◌, nat_lt, ◌&&◌, ◌||◌, Bool, true, false, not, cond, Option, Some, None, is_some, List, [], ◌∷◌, ◌++◌, length, map, filter, position, slice_get, slice_set, arith, refl, ap, sym, ◌∙◌, subst}
-use Rattle.std.specs.List.{list_any, range_with_len}
+use Rattle.std.proofs.Common.{ℕ, zero, suc, ◌+◌, ◌/◌, ◌≡◌, ◌<◌, ◌≤◌, Bool, true, false, Option, Some, None, List, [], ◌∷◌, ◌++◌, length, map, position, slice_get, arith, refl, ap, ◌∙◌}
+use Rattle.std.specs.List.{range_with_len}
 use Rattle.std.proofs.lemmas.Bool.Decides.{nat_tests}
 use Rattle.std.proofs.lemmas.List.{map-append}
 use Rattle.osc_word.specs.AddressMap.{is_image_or_stack, is_shared, first_shadow_page}
 use Rattle.osc_sv39.specs.declared.entries.Mapping.{Mapping}
 use Rattle.osc_sv39.specs.Walk.{piece}
 use Rattle.osc_slot.specs.declared.HeapPage.{HeapPage}
-use Rattle.osc_slot.specs.Heap.{Heap, Backing, back_by, back}
+use Rattle.osc_slot.specs.Heap.{Backing, back_by, back}
 use Rattle.osc_slot.proofs.Backing.{length-set}
 use Rattle.osc_paging.specs.declared.TableFrame.{TableFrame}
 use Rattle.osc_paging.specs.declared.Mapped.{Mapped}
 use Rattle.osc_paging.specs.KeptTables.{KeptTables, frame_of}
-use Rattle.osc_paging.specs.TableChanges.{Changed, linked, link, link_all, leaf_put, put_leaf, map_page, map_pages, leaf_cleared, unmap_page, unlinked, reclaim, table_frame, with_page, without_page, without_table}
+use Rattle.osc_paging.specs.TableChanges.{Changed, linked, link, link_all, leaf_put, map_page, map_pages, leaf_cleared, unmap_page, unlinked, reclaim, table_frame, with_page, without_page}
 use Rattle.osc_paging.specs.Agree.{Apart}
 use Rattle.osc_paging.proofs.Kept.{position_passes}
-use Rattle.osc_paging.proofs.TableLists.{apart-without_table, apart-with_table}
+use Rattle.osc_paging.proofs.TableLists.{apart-without_table}
 use Rattle.osc_space.specs.Space.{Space}
 use Rattle.osc_space.specs.Fork.{table_frame_of, heap_frame_of, frame_of_page, image_frames, frames_owned}
 use Rattle.osc_space.specs.Share.{shared_pages, shared_frames}
 use Rattle.osc_space.specs.Free.{unmap_all, reclaim_all}
 use Rattle.osc_space.specs.Agree.{AreApart, AllTaken, frames_of}
-use Rattle.osc_parts.specs.Frames.{one_at, among, one_where, vacant, frames_held, frames_mapped, FramesFit, Trades}
+use Rattle.osc_parts.specs.Frames.{among, one_where, vacant, frames_held, frames_mapped, FramesFit, Trades}
 use Rattle.osc_parts.proofs.Counts.{among-append, apart_once, once_apart, taken_at, all_taken, vacant_take, table_more, table_less, block_page_more, page_more, page_less}
 
 -- ---- the parts of a process that hold frames

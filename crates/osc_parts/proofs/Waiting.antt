@@ -1,15 +1,15 @@
 -- The blocks of objects that wait, and where the block of an object lies.
-use Rattle.std.proofs.Common.{ℕ, zero, suc, ◌+◌, ◌-◌, ◌*◌, ◌/◌, ◌%◌, ◌≡◌, ◌≢◌, ◌<◌, ◌≤◌, ◌==◌, nat_lt, nat_le, ◌&&◌, ◌||◌, Bool, true, false, not, cond, Option, Some, None, is_some, List, [], ◌∷◌, ◌++◌, length, map, filter, slice_get, arith, refl, ap, sym, ◌∙◌, subst, ◌⊎◌, inl, inr, ⊎_elim}
+use Rattle.std.proofs.Common.{ℕ, ◌+◌, ◌-◌, ◌/◌, ◌≡◌, ◌<◌, ◌==◌, ◌&&◌, ◌||◌, Bool, true, false, not, cond, Option, Some, None, List, [], ◌∷◌, map, filter, arith, refl, ap, sym, ◌∙◌, subst}
 use Rattle.std.specs.List.{list_any, cons_option}
 use Rattle.std.proofs.lemmas.Bool.Decides.{nat_tests}
 use Rattle.osc_class.specs.declared.Room.{Room}
 use Rattle.osc_class.specs.declared.Room.TheVariants.{Small, Pages}
 use Rattle.osc_class.specs.Rooms.{room_of, shadow_pages, IsRoom}
 use Rattle.osc_slot.specs.declared.Block.{Block}
-use Rattle.osc_slot.specs.Areas.{first_page, start_of, page_of, IsPlaced}
+use Rattle.osc_slot.specs.Areas.{start_of, IsPlaced}
 use Rattle.osc_slot.specs.Slots.{is_held, is_covered, is_on, is_block}
-use Rattle.osc_slot.specs.Heap.{Heap, ArePlaced}
-use Rattle.osc_slot.proofs.Bounds.{start_page, bytes_within}
+use Rattle.osc_slot.specs.Heap.{ArePlaced}
+use Rattle.osc_slot.proofs.Bounds.{bytes_within}
 use Rattle.osc_slot.proofs.HeldBlocks.{is_block_self, same_block, any_weaker, found}
 use Rattle.osc_space.specs.declared.ObjectFact.{ObjectFact}
 use Rattle.osc_space.specs.Objects.{fact, facts}

@@ -1,7 +1,6 @@
 -- Which frames a process holds, counted. Each change of one process's memory only moves frames
 -- between it and the free ones, so for each frame the sum of both counts stays. This project's own.
 use Rattle.std.specs.Prelude.{ℕ, ◌+◌, ◌==◌, ◌≡◌, Bool, true, false, Option, Some, None, List, [], ◌∷◌, ◌++◌, length, map, slice_get, if◌then◌else◌}
-use Rattle.osc_paging.specs.declared.Mapped.{Mapped}
 use Rattle.osc_space.specs.Space.{Space}
 use Rattle.osc_space.specs.Fork.{table_frame_of, frames_owned}
 use Rattle.osc_space.specs.Share.{shared_pages, shared_frames}

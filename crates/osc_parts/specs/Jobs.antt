@@ -5,8 +5,8 @@ use Rattle.osc_word.specs.declared.job_list.Job.TheVariants.{PutWord, ZeroWords,
 use Rattle.osc_space.specs.Space.{Space, Draft}
 use Rattle.osc_parts.specs.Frames.{among, frames_held}
 
--- all that the job reads or writes lies within one frame each, and of the frame that it writes this is
--- true
+-- no run of words that the job writes or copies crosses a frame, and of the frame that it writes in
+-- this is true
 abbrev pub WritesWhere : (ℕ → Type 0) → Job → Type 0
 WritesWhere own (PutWord at value) = (at.index < 512) × own at.frame
 WritesWhere own (ZeroWords at count) = (at.index + count ≤ 512) × own at.frame

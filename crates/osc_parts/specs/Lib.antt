@@ -8,6 +8,7 @@ pub mod FreeLaws
 pub mod ReallocLaws
 pub mod PlainLaws
 pub mod OthersFit
+pub mod Returning
 pub mod ShareLaws
 pub mod EndLaws
 pub mod ForkFits

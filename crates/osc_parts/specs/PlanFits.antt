@@ -1,5 +1,5 @@
 -- What holds while a call is under way, from its plan until it returns, and what its return makes of
--- it. Each plan that is not refused has it, so no plan's condition is owed by a caller.
+-- it. Each plan has it, also one that is refused, so no plan's condition is owed by a caller.
 use Rattle.std.specs.Prelude.{ℕ, ◌≡◌, Bool, true, false, List}
 use Rattle.osc_word.specs.declared.settings.HeapKind.{HeapKind}
 use Rattle.osc_word.specs.declared.job_list.Job.{Job}
@@ -11,7 +11,7 @@ use Rattle.osc_space.specs.Space.{Draft, Outcome, Closing, Keeps, GivesBack}
 use Rattle.osc_space.specs.Share.{Regions}
 use Rattle.osc_space.specs.Finish.{finished}
 use Rattle.osc_parts.specs.Frames.{FramesFit, Trades}
-use Rattle.osc_parts.specs.Settled.{tables_of, PartsFit, Settled}
+use Rattle.osc_parts.specs.Settled.{tables_of, PartsFit}
 use Rattle.osc_parts.specs.Jobs.{PushesOwn}
 
 -- the block is one of those that are given back

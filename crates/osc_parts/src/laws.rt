@@ -2,11 +2,12 @@
 //! definitions.
 
 ghost use Rattle.osc_parts.specs.OpenLaws.{OpeningFits};
-ghost use Rattle.osc_parts.specs.MallocLaws.{MallocsFit, MallocsTakeNeed};
+ghost use Rattle.osc_parts.specs.MallocLaws.{MallocsFit, MallocsTakeNeed, MallocsGiveNothing};
 ghost use Rattle.osc_parts.specs.FreeLaws.{FreesFit};
 ghost use Rattle.osc_parts.specs.ReallocLaws.{ReallocsFit};
 ghost use Rattle.osc_parts.specs.PlainLaws.{PlainMallocsFit, PlainFreesFit, PlainReallocsFit};
 ghost use Rattle.osc_parts.specs.OthersFit.{PlansKeepOthers};
+ghost use Rattle.osc_parts.specs.Returning.{PlansReturn, JobsLeave, ReturnsSettle, ReturnsKeepOthers};
 ghost use Rattle.osc_parts.specs.ShareLaws.{SharesFit};
 ghost use Rattle.osc_parts.specs.EndLaws.{EndsFit};
 ghost use Rattle.osc_parts.specs.ForkFits.{ForksFit};
@@ -17,27 +18,29 @@ pub fn opening_fits()
 {}
 
 /// A malloc leaves a memory whose parts fit and whose words agree with its tables once its jobs are
-/// done. It takes exactly the frames that its block and its tables need, all of them free before, and
-/// nothing is given back when it returns. One that is refused changes nothing.
+/// done, also where it is refused. Where it is not, it takes exactly the frames that its block and its
+/// tables need, all of them free before. Nothing is given back when it returns.
 pub fn malloc_fits()
     ensures fits { MallocsFit }
     ensures need { MallocsTakeNeed }
+    ensures nothing { MallocsGiveNothing }
 {}
 
-/// A free leaves each frame taken until it returns, and each block held that it gives back. When it
-/// returns exactly the frames that the process holds no more are free, and its parts fit again.
+/// A free, also one that lets a batch go or is refused, leaves each frame taken until it returns, and
+/// each block held that it gives back. When it returns exactly the frames that the process holds no
+/// more are free, and its parts fit again.
 pub fn free_fits()
     ensures { FreesFit }
 {}
 
-/// A realloc, whether its block stays or moves, leaves each frame taken until it returns, and then
-/// parts that fit: none waits any more, and only live objects hold blocks.
+/// A realloc, whether its block stays or moves or it is refused, leaves each frame taken until it
+/// returns, and each block held that it gives back; when it returns the parts fit again.
 pub fn realloc_fits()
     ensures { ReallocsFit }
 {}
 
-/// The plans of the plain heap: a page is mapped exactly while it holds a block, and its frame is free
-/// only once the call has returned.
+/// The plans of the plain heap do the same, refused ones too: no frame is free before the call has
+/// returned.
 pub fn plain_heap_fits()
     ensures malloc { PlainMallocsFit }
     ensures free { PlainFreesFit }
@@ -64,4 +67,13 @@ pub fn end_fits()
 /// After a fork that is not refused parent and child fit beside each other, and all others beside both.
 pub fn fork_fits()
     ensures { ForksFit }
+{}
+
+/// From its plan until its return a call is under way, whatever jobs are done and words change
+/// meanwhile; its return leaves a memory that is settled, and all others beside it.
+pub fn returns_settle()
+    ensures plans { PlansReturn }
+    ensures jobs { JobsLeave }
+    ensures settles { ReturnsSettle }
+    ensures others { ReturnsKeepOthers }
 {}
