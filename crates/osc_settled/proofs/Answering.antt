@@ -1,20 +1,17 @@
 -- Calls that only answer, and calls on the heap.
-use Rattle.std.proofs.Common.{ℕ, zero, suc, ◌+◌, ◌≡◌, ◌<◌, ◌≤◌, ◌==◌, Bool, true, false, cond, Option, Some, None, unwrap_or, List, [], ◌∷◌, ◌++◌, length, slice_get, arith, refl, ap, sym, ◌∙◌, subst}
+use Rattle.std.proofs.Common.{ℕ, ◌≡◌, ◌≤◌, ◌==◌, Bool, true, false, cond, Some, None, unwrap_or, List, arith, refl, ap, sym, ◌∙◌, subst}
 use Rattle.std.proofs.lemmas.Bool.Decides.{nat_tests}
 use Rattle.osc_word.specs.declared.settings.HeapKind.{HeapKind}
 use Rattle.osc_word.specs.declared.settings.HeapKind.TheVariants.{Oscar, Plain}
-use Rattle.osc_word.specs.declared.job_list.Job.{Job}
 use Rattle.osc_word.specs.declared.calls.Answer.{Answer}
 use Rattle.osc_word.specs.declared.calls.Answer.TheVariants as answers
 use Rattle.osc_paging.specs.Agree.{Agrees}
 use Rattle.osc_paging.specs.JobWords.{words_after}
-use Rattle.osc_space.specs.Space.{Space, Draft, Outcome, Terms, Closing, Keeps, unchanged}
+use Rattle.osc_space.specs.Space.{Draft, Outcome, Terms, unchanged}
 use Rattle.osc_space.specs.Share.{Regions}
 use Rattle.osc_space.specs.Header.{Found}
-use Rattle.osc_space.specs.Malloc.{malloc_plan}
-use Rattle.osc_space.specs.Free.{free_plan}
 use Rattle.osc_parts.specs.Jobs.{AllWriteWhere}
-use Rattle.osc_parts.specs.Settled.{Settled, tables_of, PartsFit}
+use Rattle.osc_parts.specs.Settled.{Settled}
 use Rattle.osc_parts.specs.PlanFits.{PlanFits}
 use Rattle.osc_parts.specs.FreeLaws.{HasTerms}
 use Rattle.osc_parts.proofs.MallocParts.{mallocs_fit}
@@ -30,13 +27,12 @@ use Rattle.osc_calls.specs.declared.JoinLook.{JoinLook}
 use Rattle.osc_calls.specs.declared.JoinLook.TheVariants as joined
 use Rattle.osc_calls.specs.declared.WaitLook.{WaitLook}
 use Rattle.osc_calls.specs.declared.WaitLook.TheVariants as waited
-use Rattle.osc_calls.specs.Kernel.{KernelState, Process, Calling, Nothing, process_at}
-use Rattle.osc_calls.specs.Labels.{out_count}
+use Rattle.osc_calls.specs.Kernel.{KernelState, Process, Calling, process_at}
 use Rattle.osc_calls.specs.Requests.{join_answer, wait_answer}
 use Rattle.osc_calls.specs.Refusals.{draft_of}
-use Rattle.osc_calls.specs.Planned.{Planned, answered, outcome_planned}
+use Rattle.osc_calls.specs.Planned.{answered, outcome_planned}
 use Rattle.osc_calls.specs.HeapPlans.{terms_of, malloc_by, free_by, free_of, realloc_by}
-use Rattle.osc_settled.specs.Memory.{memory_of, entries_in, MemoryFits}
+use Rattle.osc_settled.specs.Memory.{memory_of, entries_in}
 use Rattle.osc_settled.specs.UnderWay.{HasAlone, is_end, record_by}
 use Rattle.osc_settled.specs.KeepLaws.{FitsCaller}
 use Rattle.osc_settled.proofs.Memories.{returns_keeps}
@@ -89,7 +85,7 @@ pub fits_caller : (words : List ℕ) (k : KernelState) (c : Calling) (p : Proces
     → ((entries : ℕ → ℕ → ℕ) → PlanFits k.config.heap k.config.batch entries words k.regions (draft_of k p) o) → Silent (draft_of k p) o → FitsCaller words k p o
 fits_caller words k c p o a f s = record { each = f; answer = s.answer; writes = s.writes ∙ ap outs a.waits.jobs }
 
-malloc_fits : (kind : HeapKind) (batch : ℕ) (entries : ℕ → ℕ → ℕ) (words : List ℕ) (regions : Regions) (n : ℕ) (d : Draft)
+pub malloc_fits : (kind : HeapKind) (batch : ℕ) (entries : ℕ → ℕ → ℕ) (words : List ℕ) (regions : Regions) (n : ℕ) (d : Draft)
     → Settled kind batch entries words regions d → PlanFits kind batch entries words regions d (malloc_by kind n d)
 malloc_fits Oscar batch entries words regions n d s = mallocs_fit batch entries words regions n d s
 malloc_fits Plain batch entries words regions n d s = plain_mallocs_fit batch entries words regions n d s
@@ -108,7 +104,7 @@ free_fits Oscar batch entries words regions terms pointer found d h s = frees_fi
 free_fits Plain batch entries words regions terms pointer found d h s = plain_frees_fit batch entries words regions terms.harts pointer d s h.harts
 
 -- a free of 0 changes nothing
-null_fits : (kind : HeapKind) (batch : ℕ) (entries : ℕ → ℕ → ℕ) (words : List ℕ) (regions : Regions) (terms : Terms) (pointer : ℕ) (found : Found) (d : Draft) (null : Bool)
+pub null_fits : (kind : HeapKind) (batch : ℕ) (entries : ℕ → ℕ → ℕ) (words : List ℕ) (regions : Regions) (terms : Terms) (pointer : ℕ) (found : Found) (d : Draft) (null : Bool)
     → HasTerms batch terms → Settled kind batch entries words regions d
     → PlanFits kind batch entries words regions d (cond null (unchanged answers.Nothing d) (free_by kind terms pointer found d))
 null_fits kind batch entries words regions terms pointer found d true h s = unchanged_fits kind batch entries words regions d answers.Nothing s
@@ -122,7 +118,7 @@ free_owed words k c p pointer found a e =
     (λ entries. null_fits k.config.heap k.config.batch entries words k.regions (terms_of k) pointer found (draft_of k p) (pointer == 0) (has_terms words k c a) (settled words k c p entries a e))
     (free_of-silent k.config.heap (terms_of k) pointer found (draft_of k p)))
 
-realloc_fits : (kind : HeapKind) (batch : ℕ) (entries : ℕ → ℕ → ℕ) (words : List ℕ) (regions : Regions) (terms : Terms) (pointer n : ℕ) (found : Found) (d : Draft)
+pub realloc_fits : (kind : HeapKind) (batch : ℕ) (entries : ℕ → ℕ → ℕ) (words : List ℕ) (regions : Regions) (terms : Terms) (pointer n : ℕ) (found : Found) (d : Draft)
     → HasTerms batch terms → Settled kind batch entries words regions d → PlanFits kind batch entries words regions d (realloc_by kind terms pointer n found d)
 realloc_fits Oscar batch entries words regions terms pointer n found d h s = reallocs_fit batch entries words regions terms pointer n found d s h
 realloc_fits Plain batch entries words regions terms pointer n found d h s = plain_reallocs_fit batch entries words regions terms.harts pointer n found.second d s h.harts

@@ -34,4 +34,3 @@ holds_apart processes regions free a b p q u n e g k h f = go (among f (frames_h
         let sum = u.holders f in
         let zero_holders = none (holders regions f) once_used (omega (arith, both, is)) in
         omega (arith, is, once_used, both, other, sum, zero_holders, mapped)
-

@@ -1,7 +1,6 @@
 -- A hart that takes the kernel keeps what holds.
-use Rattle.std.proofs.Common.{ℕ, ◌≡◌, ◌≢◌, ◌<◌, ◌==◌, nat_lt, not, Bool, true, false, cond, Option, Some, None, List, [], ◌∷◌, length, slice_get, arith, refl, ap, sym, ◌∙◌, subst}
+use Rattle.std.proofs.Common.{ℕ, ◌≡◌, ◌<◌, nat_lt, not, Bool, true, false, cond, Option, Some, None, List, [], length, slice_get, arith, refl, ap, subst}
 use Rattle.std.proofs.lemmas.Bool.Decides.{nat_tests}
-use Rattle.osc_word.specs.declared.calls.Call.{Call}
 use Rattle.osc_word.specs.declared.calls.Request.{Request}
 use Rattle.osc_word.specs.declared.calls.Request.TheVariants as request
 use Rattle.osc_calls.specs.declared.Begun.{Begun}
@@ -10,8 +9,7 @@ use Rattle.osc_calls.specs.declared.HartRecord.{HartRecord}
 use Rattle.osc_calls.specs.declared.HartRecord.TheVariants.{Idle, Runs, Stopped}
 use Rattle.osc_calls.specs.Kernel.{KernelState, Process, Calling, UnderWay, Quiet, Retrying, Leaving, Waiting, process_at, has_journal_room}
 use Rattle.osc_calls.specs.Requests.{calling_of, meant, is_ready}
-use Rattle.osc_calls.specs.Plan.{plan}
-use Rattle.osc_calls.specs.Begin.{first_step, begun_in, stands, no_words, began, begin_as, begin_call, begin}
+use Rattle.osc_calls.specs.Begin.{first_step, begun_in, no_words, begin_as, begin_call, begin}
 use Rattle.osc_space.specs.Space.{Keeps}
 use Rattle.osc_settled.specs.Memory.{memory_of, MemoryFits}
 use Rattle.osc_settled.specs.Records.{ending, RecordsFit}
@@ -126,4 +124,4 @@ begins_keep words hart pc regs asked k f u = keeps (calling_of hart regs pc aske
     keeps (Some c) e =
         begun_keeps words k c (begun_in (process_at k c.pid) c k) r
         (λ g. (let who = asks_as hart pc regs asked (slice_get k.records hart) c e in
-            rests_waiting words k c r (has_room (process_at k c.pid) c k g) (subst (λ h. slice_get k.records h ≡ Some (Runs c.pid c.thread)) who.1 who.0)))
+        rests_waiting words k c r (has_room (process_at k c.pid) c k g) (subst (λ h. slice_get k.records h ≡ Some (Runs c.pid c.thread)) who.1 who.0)))

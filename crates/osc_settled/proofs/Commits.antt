@@ -1,22 +1,20 @@
 -- A call that commits: what its plan owes, and what holds then.
-use Rattle.std.proofs.Common.{ℕ, zero, suc, ◌+◌, ◌-◌, ◌≡◌, ◌≢◌, ◌<◌, ◌≤◌, ◌==◌, ◌&&◌, max, Bool, true, false, cond, Option, Some, None, is_none, List, [], ◌∷◌, ◌++◌, length, slice_get, slice_set, arith, refl, ap, sym, ◌∙◌, subst}
-use Rattle.std.specs.List.{sum_by}
+use Rattle.std.proofs.Common.{ℕ, ◌-◌, ◌≡◌, ◌<◌, ◌≤◌, ◌==◌, max, Bool, true, false, Option, Some, None, is_none, List, [], ◌∷◌, ◌++◌, length, slice_get, slice_set, arith, refl, ap, sym, ◌∙◌, subst}
 use Rattle.std.proofs.lemmas.Bool.Decides.{nat_tests}
 use Rattle.std.proofs.lemmas.List.{length-append}
-use Rattle.osc_word.specs.declared.job_list.Job.{Job}
-use Rattle.osc_space.specs.Space.{Closing, Keeps, GivesBack}
+use Rattle.osc_space.specs.Space.{Closing}
 use Rattle.osc_slot.specs.Heap.{free_count}
 use Rattle.osc_parts.specs.Jobs.{AllWriteWhere}
 use Rattle.osc_calls.specs.declared.Thread.{Thread}
 use Rattle.osc_calls.specs.declared.HartRecord.{HartRecord}
-use Rattle.osc_calls.specs.Kernel.{KernelState, Process, Calling, Committed, UnderWay, Quiet, Retrying, Leaving, Waiting, Returning, Effect, Nothing, Clears, Starts, Ends, process_at, in_use}
-use Rattle.osc_calls.specs.Planned.{Planned, closing_effect}
+use Rattle.osc_calls.specs.Kernel.{Process, Calling, Effect, Nothing, Clears, Starts, Ends, process_at}
+use Rattle.osc_calls.specs.Planned.{Planned}
 use Rattle.osc_calls.specs.Plan.{committed, journal_entry}
 use Rattle.osc_settled.specs.Memory.{memory_of, MemoryFits}
-use Rattle.osc_settled.specs.Records.{is_living, ends_by, ending, RecordsFit}
-use Rattle.osc_settled.specs.UnderWay.{closing_of, HasAlone, made_by, is_end, record_by, StartFits, EffectFits, WaitingFits, ReturningFits, UnderWayFits}
+use Rattle.osc_settled.specs.Records.{is_living, ends_by, RecordsFit}
+use Rattle.osc_settled.specs.UnderWay.{HasAlone, made_by, is_end, record_by, EffectFits}
 use Rattle.osc_settled.specs.KernelFits.{SizesFit, KernelFits}
-use Rattle.osc_settled.proofs.Lists.{get-put_same, get-put_other, some_same}
+use Rattle.osc_settled.proofs.Lists.{get-put_same, get-put_other}
 use Rattle.osc_settled.proofs.Memories.{closes_for}
 
 -- ---- lists

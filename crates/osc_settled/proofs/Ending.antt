@@ -1,5 +1,5 @@
 -- Calls that end a process or a thread.
-use Rattle.std.proofs.Common.{ℕ, zero, suc, ◌+◌, ◌-◌, ◌≡◌, ◌≢◌, ◌<◌, ◌≤◌, ◌==◌, ◌&&◌, ◌⊎◌, inl, inr, Bool, true, false, cond, Option, Some, None, is_none, option_map, List, [], ◌∷◌, ◌++◌, length, map, slice_get, slice_set, arith, refl, ap, sym, ◌∙◌, subst}
+use Rattle.std.proofs.Common.{ℕ, zero, suc, ◌-◌, ◌≡◌, ◌≢◌, ◌<◌, ◌≤◌, ◌==◌, ◌⊎◌, inl, inr, Bool, true, false, cond, Option, Some, None, option_map, List, [], ◌∷◌, length, map, slice_get, slice_set, arith, refl, ap, sym, ◌∙◌, subst}
 use Rattle.std.proofs.lemmas.Bool.Decides.{nat_tests}
 use Rattle.std.proofs.lemmas.Option.{slice_get_within, slice_get-map}
 use Rattle.osc_parts.specs.Jobs.{AllWriteWhere}
@@ -8,12 +8,11 @@ use Rattle.osc_calls.specs.declared.Report.{Report}
 use Rattle.osc_calls.specs.declared.HartRecord.{HartRecord}
 use Rattle.osc_calls.specs.declared.HartRecord.TheVariants.{Idle, Runs, Stopped}
 use Rattle.osc_calls.specs.Threads.{thread_at, put_value, thread_done}
-use Rattle.osc_calls.specs.Kernel.{KernelState, Process, Calling, process_at, runs}
+use Rattle.osc_calls.specs.Kernel.{KernelState, Process, Calling, process_at}
 use Rattle.osc_calls.specs.ProcessPlans.{record_stopped, records_ended, process_ends, value_left, done_by}
-use Rattle.osc_settled.specs.Memory.{memory_of, MemoryFits}
+use Rattle.osc_settled.specs.Memory.{memory_of}
 use Rattle.osc_settled.specs.Records.{is_living, goes_on, is_at_work, RecordsFit}
-use Rattle.osc_settled.specs.UnderWay.{HasAlone, is_end, record_by}
-use Rattle.osc_settled.specs.KernelFits.{SizesFit}
+use Rattle.osc_settled.specs.UnderWay.{HasAlone}
 use Rattle.osc_settled.proofs.Lists.{get-put_same, get-put_other, length-put, some_same}
 use Rattle.osc_settled.proofs.Commits.{Owed}
 use Rattle.osc_settled.proofs.Outcomes.{Asks, caller_lives, closes_nothing}

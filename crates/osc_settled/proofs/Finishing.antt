@@ -1,11 +1,8 @@
 -- A kernel that is given back keeps what holds.
-use Rattle.std.proofs.Common.{ℕ, zero, suc, ◌+◌, ◌*◌, ◌≡◌, ◌≢◌, ◌<◌, ◌≤◌, ◌==◌, ◌⊎◌, inl, inr, Bool, true, false, cond, Option, Some, None, List, [], ◌∷◌, ◌++◌, length, map, slice_get, slice_set, arith, refl, ap, sym, ◌∙◌, subst}
+use Rattle.std.proofs.Common.{ℕ, zero, suc, ◌+◌, ◌*◌, ◌≡◌, ◌≢◌, ◌<◌, ◌≤◌, ◌==◌, Bool, true, false, cond, Option, Some, None, List, [], ◌∷◌, length, map, slice_get, slice_set, arith, refl, ap, sym, ◌∙◌, subst}
 use Rattle.std.specs.List.{sum_by}
 use Rattle.std.proofs.lemmas.Bool.Decides.{nat_tests}
-use Rattle.std.proofs.lemmas.Option.{slice_get_within}
-use Rattle.osc_word.specs.declared.settings.HeapKind.{HeapKind}
 use Rattle.osc_word.specs.declared.job_list.Job.{Job}
-use Rattle.osc_word.specs.declared.calls.Resume.TheVariants as resume
 use Rattle.osc_paging.specs.declared.TableFrame.{TableFrame}
 use Rattle.osc_paging.specs.declared.Piece.{Piece}
 use Rattle.osc_paging.specs.KeptTables.{piece_of}
@@ -14,26 +11,25 @@ use Rattle.osc_paging.specs.Agree.{Agrees}
 use Rattle.osc_space.specs.Space.{Space, Draft, Closing, Keeps}
 use Rattle.osc_space.specs.Finish.{finished}
 use Rattle.osc_space.specs.Fork.{table_frame_of}
-use Rattle.osc_space.specs.Share.{Regions, holders, shared_frames}
-use Rattle.osc_parts.specs.Frames.{among, vacant, frames_held, FramesFit, Trades}
-use Rattle.osc_parts.proofs.Trading.{held_is, held_taken, fit_after, shared_same}
+use Rattle.osc_space.specs.Share.{Regions}
+use Rattle.osc_parts.specs.Frames.{among, Trades}
+use Rattle.osc_parts.proofs.Trading.{held_is, fit_after, shared_same}
 use Rattle.osc_calls.specs.declared.HartRecord.{HartRecord}
 use Rattle.osc_calls.specs.declared.HartRecord.TheVariants.{Idle, Runs, Stopped}
-use Rattle.osc_calls.specs.Kernel.{KernelState, Process, Calling, Committed, UnderWay, Quiet, Retrying, Leaving, Waiting, Returning, Effect, Nothing, Clears, Starts, Ends, process_at}
+use Rattle.osc_calls.specs.Kernel.{KernelState, Process, Committed, Returning, process_at}
 use Rattle.osc_calls.specs.Labels.{out_count}
 use Rattle.osc_calls.specs.Refusals.{draft_of}
 use Rattle.osc_calls.specs.Planned.{with_draft}
-use Rattle.osc_calls.specs.Finish.{record_left, hart_left, given_back, quiet, returned, returned_from, settled, finish_by, finish}
-use Rattle.osc_settled.specs.Memory.{Memory, memory_of, draft_in, entries_in, held_by, shared_by, held, shared, one_if, at_rest, Returns, SpaceFits, IsBare, MemoryFits}
-use Rattle.osc_settled.specs.Records.{is_living, ends_by, ending, RecordsFit}
-use Rattle.osc_settled.specs.UnderWay.{closing_of, WaitingFits, ReturningFits, UnderWayFits}
-use Rattle.osc_settled.specs.KernelFits.{SizesFit, KernelFits}
-use Rattle.osc_settled.specs.KeepLaws.{FinishKeeps}
+use Rattle.osc_calls.specs.Finish.{hart_left}
+use Rattle.osc_settled.specs.Memory.{Memory, memory_of, entries_in, held_by, shared_by, at_rest, SpaceFits, IsBare, MemoryFits}
+use Rattle.osc_settled.specs.Records.{RecordsFit}
+use Rattle.osc_settled.specs.UnderWay.{closing_of, ReturningFits}
+use Rattle.osc_settled.specs.KernelFits.{SizesFit}
 use Rattle.osc_settled.proofs.Lists.{get-put_same, get-put_other, length-put, sum-put, some_same}
 use Rattle.osc_settled.proofs.Memories.{Undisturbed, frames_stay, parts_stay, keeps_returns, returns_keeps, UsedOnce, undisturbed, closes_for}
 use Rattle.osc_settled.proofs.Commits.{lives_none, living_put, records_stay}
 use Rattle.osc_settled.proofs.Ending.{threads_stay, records_idle}
-use Rattle.osc_settled.proofs.Beginning.{AtRest, rests_quiet}
+use Rattle.osc_settled.proofs.Beginning.{AtRest}
 
 -- ---- tables of a process whose frames stay
 table_counts : (f : ℕ) (ts : List TableFrame) (p : Piece) → piece_of ts f ≡ Some p → 0 < among f (map table_frame_of ts)

@@ -1,32 +1,28 @@
 -- A fork keeps what holds.
-use Rattle.std.proofs.Common.{ℕ, zero, suc, ◌+◌, ◌-◌, ◌*◌, ◌≡◌, ◌≢◌, ◌<◌, ◌≤◌, ◌==◌, nat_lt, nat_le, ◌&&◌, Bool, true, false, not, cond, Option, Some, None, is_some, is_none, List, [], ◌∷◌, ◌++◌, length, map, filter, slice_get, slice_set, arith, refl, ap, sym, ◌∙◌, subst, ◌⊎◌, inl, inr}
+use Rattle.std.proofs.Common.{ℕ, zero, suc, ◌+◌, ◌≡◌, ◌≢◌, ◌<◌, ◌≤◌, ◌==◌, nat_le, ◌&&◌, Bool, true, false, cond, Option, Some, None, is_some, is_none, List, [], ◌∷◌, ◌++◌, length, map, filter, slice_get, slice_set, arith, refl, ap, sym, ◌∙◌, subst, ◌⊎◌, inl, inr}
 use Rattle.std.specs.List.{sum_by}
-use Rattle.std.specs.Prelude.{zip}
 use Rattle.std.proofs.lemmas.Bool.Decides.{nat_tests}
 use Rattle.std.proofs.lemmas.List.{length-append}
-use Rattle.std.proofs.lemmas.List.Sums.{sum_by_push, sum_by-cons, sum_by-append}
+use Rattle.std.proofs.lemmas.List.Sums.{sum_by_push, sum_by-cons}
 use Rattle.std.proofs.lemmas.Option.{slice_get_within}
 use Rattle.osc_word.specs.declared.calls.Answer.{Answer}
 use Rattle.osc_word.specs.declared.calls.Answer.TheVariants as answers
 use Rattle.osc_word.specs.declared.calls.Call.TheVariants as calls
-use Rattle.osc_word.specs.declared.orders.Start.{Start}
 use Rattle.osc_word.specs.declared.job_list.Job.{Job}
-use Rattle.osc_word.specs.declared.settings.HeapKind.{HeapKind}
 use Rattle.osc_slot.proofs.Backing.{get-set}
-use Rattle.osc_paging.specs.KeptTables.{KeptTables, kept_word, piece_of}
+use Rattle.osc_paging.specs.KeptTables.{KeptTables, piece_of}
 use Rattle.osc_paging.specs.JobWords.{words_after}
 use Rattle.osc_paging.specs.Agree.{Agrees}
 use Rattle.osc_paging.specs.CopyLaws.{KeepsTaken, TellsEntries, CopyAgrees}
 use Rattle.osc_paging.specs.TableChanges.{renamed}
-use Rattle.osc_space.specs.Space.{Space, Draft, Closing, Keeps, Reason, reason, first_reason}
+use Rattle.osc_space.specs.Space.{Space, Keeps, Reason, reason, first_reason}
 use Rattle.osc_word.specs.AddressMap.{is_image_or_stack}
 use Rattle.osc_paging.specs.declared.Mapped.{Mapped}
-use Rattle.osc_space.specs.Fork.{table_frame_of, heap_frame_of, frame_of_page, Forked, copies, copy_by, copy_job, set_free, private_frames, fork_reasons, fork_plan}
+use Rattle.osc_space.specs.Fork.{table_frame_of, heap_frame_of, frame_of_page, Forked, copies, copy_by, copy_job, set_free, fork_reasons, fork_plan}
 use Rattle.osc_space.specs.Share.{Regions, holders, shared_frames, join}
 use Rattle.osc_parts.specs.Frames.{among, vacant, one_where, frames_held, frames_mapped, FramesFit}
-use Rattle.osc_parts.specs.Settled.{tables_of, PartsFit, Settled}
+use Rattle.osc_parts.specs.Settled.{PartsFit}
 use Rattle.osc_parts.specs.Jobs.{AllWriteWhere, WritesWhere, IsOwn}
-use Rattle.osc_parts.specs.OthersFit.{HoldsApart}
 use Rattle.osc_parts.specs.ForkFits.{ForkFits}
 use Rattle.osc_parts.proofs.Counts.{among-append}
 use Rattle.osc_parts.proofs.Trading.{held_is, held_once, held_taken, vacant_once, vacant_there}
@@ -35,25 +31,24 @@ use Rattle.osc_parts.proofs.Blocks.{all_weaker}
 use Rattle.osc_parts.proofs.ForkParts.{forks_fit}
 use Rattle.osc_calls.specs.declared.Thread.{Thread}
 use Rattle.osc_calls.specs.declared.HartRecord.{HartRecord}
-use Rattle.osc_calls.specs.declared.HartRecord.TheVariants.{Idle, Runs, Stopped}
+use Rattle.osc_calls.specs.declared.HartRecord.TheVariants.{Idle, Runs}
 use Rattle.osc_calls.specs.Kernel.{KernelState, Process, Calling, process_at, root_frame, idle_hart}
-use Rattle.osc_calls.specs.JobDone.{newest, child_entry}
+use Rattle.osc_calls.specs.JobDone.{child_entry}
 use Rattle.osc_calls.specs.Labels.{out_count}
 use Rattle.osc_calls.specs.Refusals.{draft_of, no_hart, no_process, refusal_of}
-use Rattle.osc_calls.specs.Planned.{Planned, planned_unless}
+use Rattle.osc_calls.specs.Planned.{planned_unless}
 use Rattle.osc_calls.specs.ProcessPlans.{new_hart, fork_start, child_process, fork_made, fork_done}
 use Rattle.osc_settled.specs.Memory.{Memory, memory_of, draft_in, entries_in, held_by, shared_by, held, shared, one_if, SpaceFits, IsBare, MemoryFits}
-use Rattle.osc_settled.specs.Records.{is_living, is_at_work, RecordsFit}
+use Rattle.osc_settled.specs.Records.{is_living, RecordsFit}
 use Rattle.osc_settled.specs.UnderWay.{HasAlone, is_end}
-use Rattle.osc_settled.specs.KernelFits.{SizesFit}
 use Rattle.osc_settled.proofs.Lists.{get-put_same, get-put_other, length-put, one_within, some_same}
-use Rattle.osc_settled.proofs.Memories.{keeps_returns, returns_keeps, UsedOnce, closes_for, taken_there}
+use Rattle.osc_settled.proofs.Memories.{keeps_returns, returns_keeps, UsedOnce, taken_there}
 use Rattle.osc_settled.proofs.Apart.{holds_apart}
-use Rattle.osc_settled.proofs.Commits.{last_of, lives_none, none_lives, Owed}
+use Rattle.osc_settled.proofs.Commits.{last_of, lives_none, Owed}
 use Rattle.osc_settled.proofs.Outcomes.{Asks, caller_lives, closes_nothing}
 use Rattle.osc_settled.proofs.Answering.{answered_owed, settled}
 use Rattle.osc_settled.proofs.Ending.{living_within}
-use Rattle.osc_settled.proofs.Spawning.{get-more, get-last, get-either, idle_there, idle_is, idle_other, start_fits, records_more}
+use Rattle.osc_settled.proofs.Spawning.{get-last, get-either, idle_there, idle_is, idle_other, start_fits, records_more}
 use Rattle.osc_settled.proofs.Silent.{outs, outs-push, outs-map, first_no_end}
 
 -- ---- the child's frames
@@ -146,7 +141,7 @@ no_more_free free after f k = go (vacant after f) refl (vacant free f) refl
         let within : f < length free = (let l = slice_get_within after f true there in let s = k.size in omega (arith, l, s)) in
         absurd (let z = sym there ∙ k.taken f (taken_there free f within g) in let w : ⊥ = grind (arith, z) in w)
 
-bare_none : (s : Space) (f : ℕ) → IsBare s → among f (frames_held s) ≡ 0
+pub bare_none : (s : Space) (f : ℕ) → IsBare s → among f (frames_held s) ≡ 0
 bare_none s f b =
     let h = held_is f s in
     let t = ap (λ ts. among f (map table_frame_of ts)) b.tables in
@@ -365,9 +360,12 @@ forked_owed words k c p hart f a e idle room none t = record {
       (all_weaker (IsOwn f.child) (HasAlone (join f.child.tables k.regions) (Some (child_process c.pid f.child))) (k.jobs ++ f.jobs) (λ frame l. inl l)
       (subst (λ js. AllWriteWhere (IsOwn f.child) (js ++ f.jobs)) (sym a.waits.jobs)
       (pushed_all (IsOwn f.child) k.jobs f.jobs any.pushes.more a.waits.jobs any.pushes.is any.pushes.within)));
-  effect = (refl, start_fits (fork_made hart (length k.processes) c f k).kernel (child_process c.pid f.child) c.hart hart None
-      (fork_start k.config c (length k.processes) (root_frame f.child)) other (get-put_same k.records hart Idle (Runs (length k.processes) None) idle)
-      (get-last k.processes (child_process c.pid f.child)) refl refl refl);
+  effect = (
+    refl,
+    start_fits (fork_made hart (length k.processes) c f k).kernel (child_process c.pid f.child) c.hart hart None
+        (fork_start k.config c (length k.processes) (root_frame f.child)) other (get-put_same k.records hart Idle (Runs (length k.processes) None) idle)
+        (get-last k.processes (child_process c.pid f.child)) refl refl refl,
+  );
 }
   where
     any : ForkFits k.config.heap k.config.batch (λ x y. 0) words k.regions (join f.child.tables k.regions) (draft_of k p) f
@@ -387,7 +385,7 @@ unfolding fork_reasons
 reasons_no_end k p answer e = first_no_end (no_hart k ∷ no_process k ∷ fork_reasons p.space k.free) answer (refl, (refl, (refl, tt))) e
 
 -- where no reason holds, there is a hart, a process and memory
-none_of : (b d : Bool) (x y : Answer) (more : List Reason) → first_reason (reason b x ∷ reason d y ∷ more) ≡ None → (b ≡ false) × (d ≡ false) × (first_reason more ≡ None)
+pub none_of : (b d : Bool) (x y : Answer) (more : List Reason) → first_reason (reason b x ∷ reason d y ∷ more) ≡ None → (b ≡ false) × (d ≡ false) × (first_reason more ≡ None)
 none_of true d x y more e = absurd (let z : ⊥ = grind (arith, e) in z)
 none_of false true x y more e = absurd (let z : ⊥ = grind (arith, e) in z)
 none_of false false x y more e = (refl, refl, e)

@@ -1,31 +1,25 @@
 -- The return of a call that ends its process keeps what holds.
-use Rattle.std.proofs.Common.{ℕ, zero, suc, ◌+◌, ◌-◌, ◌≡◌, ◌≢◌, ◌<◌, ◌≤◌, ◌==◌, ◌&&◌, nat_lt, Bool, true, false, cond, Option, Some, None, is_none, List, [], ◌∷◌, ◌++◌, length, map, slice_get, slice_set, arith, refl, ap, sym, ◌∙◌, subst}
-use Rattle.std.specs.List.{sum_by}
+use Rattle.std.proofs.Common.{ℕ, zero, suc, ◌+◌, ◌-◌, ◌≡◌, ◌≢◌, ◌<◌, ◌≤◌, ◌==◌, ◌&&◌, nat_lt, Bool, true, false, cond, Option, Some, None, is_none, List, [], ◌∷◌, length, slice_get, slice_set, arith, refl, ap, sym, ◌∙◌, subst}
 use Rattle.std.proofs.lemmas.Bool.Decides.{nat_tests}
-use Rattle.std.proofs.lemmas.Option.{slice_get_within}
-use Rattle.osc_word.specs.declared.settings.HeapKind.{HeapKind}
 use Rattle.osc_paging.specs.JobWords.{words_after}
 use Rattle.osc_paging.specs.Agree.{Agrees}
-use Rattle.osc_space.specs.Space.{Space, Draft, Closing, Keeps}
+use Rattle.osc_space.specs.Space.{Space, Closing, Keeps}
 use Rattle.osc_space.specs.Share.{Regions, RegionsAndFree, holders, shared_frames, let_regions_go, leave}
 use Rattle.osc_space.specs.Finish.{Ended, ended}
-use Rattle.osc_parts.specs.Frames.{among, vacant, frames_held, frames_mapped, FramesFit, Trades}
-use Rattle.osc_parts.specs.Settled.{PartsFit}
-use Rattle.osc_parts.specs.OthersFit.{HoldsApart}
+use Rattle.osc_parts.specs.Frames.{among, frames_held, frames_mapped}
 use Rattle.osc_parts.specs.EndLaws.{AreHeld, dropped, EndFits}
 use Rattle.osc_parts.proofs.Counts.{among-append}
-use Rattle.osc_parts.proofs.Trading.{held_once, held_taken}
 use Rattle.osc_parts.proofs.EndParts.{ends_fit}
 use Rattle.osc_calls.specs.declared.Thread.{Thread}
 use Rattle.osc_calls.specs.declared.HartRecord.{HartRecord}
-use Rattle.osc_calls.specs.declared.HartRecord.TheVariants.{Idle, Runs, Stopped}
+use Rattle.osc_calls.specs.declared.HartRecord.TheVariants.{Stopped}
 use Rattle.osc_calls.specs.Kernel.{KernelState, Process, process_at}
 use Rattle.osc_calls.specs.Finish.{with_ended}
-use Rattle.osc_settled.specs.Memory.{Memory, memory_of, draft_in, entries_in, held_by, shared_by, held, shared, one_if, SpaceFits, IsBare, MemoryFits}
+use Rattle.osc_settled.specs.Memory.{Memory, memory_of, entries_in, held_by, shared_by, shared, one_if, SpaceFits, IsBare, MemoryFits}
 use Rattle.osc_settled.specs.Records.{is_living, RecordsFit}
 use Rattle.osc_settled.specs.KernelFits.{SizesFit}
 use Rattle.osc_settled.proofs.Lists.{get-put_same, get-put_other, length-put, sum-put, one_within, two_within, some_same}
-use Rattle.osc_settled.proofs.Memories.{Undisturbed, frames_stay, parts_stay, keeps_returns, returns_keeps, UsedOnce, undisturbed, closes_for}
+use Rattle.osc_settled.proofs.Memories.{frames_stay, keeps_returns, returns_keeps, UsedOnce, undisturbed, closes_for}
 use Rattle.osc_settled.proofs.Finishing.{tables_stay}
 use Rattle.osc_settled.proofs.Apart.{holds_apart}
 use Rattle.osc_settled.proofs.Beginning.{AtRest}

@@ -1,13 +1,12 @@
 -- Jobs that write no word of memory: what they leave of the memories of all.
-use Rattle.std.proofs.Common.{ℕ, zero, suc, ◌+◌, ◌≡◌, Bool, true, false, Option, Some, None, List, [], ◌∷◌, ◌++◌, length, slice_get, arith, refl, ap, sym, ◌∙◌, subst}
+use Rattle.std.proofs.Common.{ℕ, ◌≡◌, List, [], ◌∷◌, ◌++◌, refl, sym, ◌∙◌, subst}
 use Rattle.osc_word.specs.declared.job_list.Job.{Job}
 use Rattle.osc_word.specs.declared.job_list.Job.TheVariants.{PutWord, ZeroWords, CopyWords, CopyPart, CopyTable, ClearBox, Tell, ToOut}
 use Rattle.osc_paging.specs.JobWords.{words_done, words_after}
 use Rattle.osc_paging.specs.Agree.{Agrees}
 use Rattle.osc_space.specs.Space.{Closing}
 use Rattle.osc_parts.specs.Jobs.{AllWriteWhere}
-use Rattle.osc_calls.specs.Kernel.{Process}
-use Rattle.osc_settled.specs.Memory.{Memory, entries_in, SpaceFits, MemoryFits}
+use Rattle.osc_settled.specs.Memory.{Memory, entries_in, MemoryFits}
 
 -- the job changes a box, or only reads
 abbrev pub WritesNothing : Job → Type 0

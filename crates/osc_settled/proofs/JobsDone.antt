@@ -1,5 +1,5 @@
 -- A job that is done keeps what holds.
-use Rattle.std.proofs.Common.{ℕ, zero, suc, ◌+◌, ◌-◌, ◌≡◌, ◌≢◌, ◌<◌, ◌≤◌, Bool, Option, Some, None, List, [], ◌∷◌, ◌++◌, length, take, drop, slice_get, arith, refl, ap, sym, ◌∙◌, subst}
+use Rattle.std.proofs.Common.{ℕ, zero, suc, ◌+◌, ◌≡◌, ◌≤◌, Some, List, [], ◌∷◌, length, take, drop, slice_get, arith, sym, ◌∙◌, subst}
 use Rattle.std.specs.List.{sum_by}
 use Rattle.std.proofs.lemmas.List.{length-append}
 use Rattle.std.proofs.lemmas.List.Sums.{sum_by-cons}
@@ -11,12 +11,12 @@ use Rattle.osc_paging.specs.Agree.{Agrees}
 use Rattle.osc_paging.proofs.Elsewhere.{length-words_done}
 use Rattle.osc_space.specs.Space.{Closing}
 use Rattle.osc_parts.specs.Jobs.{AllWriteWhere}
-use Rattle.osc_calls.specs.Kernel.{KernelState, Process, Calling, Committed, UnderWay, Quiet, Retrying, Leaving, Waiting, Returning, Effect, Nothing, Clears, Starts, Ends, process_at}
+use Rattle.osc_calls.specs.Kernel.{KernelState, Calling, UnderWay, Quiet, Retrying, Leaving, Waiting, Returning, Effect, Nothing, Clears, Starts, Ends, process_at}
 use Rattle.osc_calls.specs.Labels.{out_count}
 use Rattle.osc_calls.specs.JobDone.{job_done, entries, output_after, bytes_of}
-use Rattle.osc_settled.specs.Memory.{memory_of, entries_in, MemoryFits, SpaceFits}
-use Rattle.osc_settled.specs.UnderWay.{HasAlone, made_by, EffectFits, ReturningFits, UnderWayFits}
-use Rattle.osc_settled.specs.KernelFits.{SizesFit, KernelFits}
+use Rattle.osc_settled.specs.Memory.{entries_in}
+use Rattle.osc_settled.specs.UnderWay.{HasAlone, made_by, EffectFits, UnderWayFits}
+use Rattle.osc_settled.specs.KernelFits.{KernelFits}
 use Rattle.osc_settled.specs.KeepLaws.{JobsKeep}
 
 -- the kernel with these jobs and this output in place of its own

@@ -17,3 +17,9 @@ pub mod Returning
 pub mod Sharing
 pub mod Apart
 pub mod Forking
+pub mod Following
+pub mod Totals
+pub mod Taking
+pub mod Laying
+pub mod Starting
+pub mod Shadows

@@ -1,6 +1,5 @@
 -- What a change of one process's memory keeps of the memories of all.
-use Rattle.std.proofs.Common.{ℕ, zero, suc, ◌+◌, ◌≡◌, ◌≢◌, ◌<◌, ◌≤◌, ◌==◌, Bool, true, false, cond, Option, Some, None, List, [], ◌∷◌, ◌++◌, length, map, slice_get, slice_set, arith, refl, ap, sym, ◌∙◌, subst}
-use Rattle.std.specs.List.{sum_by}
+use Rattle.std.proofs.Common.{ℕ, zero, suc, ◌+◌, ◌≡◌, ◌≢◌, ◌<◌, ◌≤◌, ◌==◌, Bool, true, false, cond, Some, None, List, [], ◌∷◌, ◌++◌, length, map, slice_get, slice_set, arith, refl, ap, sym, ◌∙◌, subst}
 use Rattle.std.proofs.lemmas.Bool.Decides.{nat_tests}
 use Rattle.std.proofs.lemmas.Option.{slice_get_within}
 use Rattle.osc_word.specs.declared.settings.HeapKind.{HeapKind}
@@ -9,24 +8,22 @@ use Rattle.osc_word.specs.declared.job_list.Job.TheVariants.{PutWord, ZeroWords,
 use Rattle.osc_paging.specs.declared.TableFrame.{TableFrame}
 use Rattle.osc_paging.specs.KeptTables.{KeptTables, piece_of}
 use Rattle.osc_paging.specs.JobWords.{words_after}
-use Rattle.osc_paging.specs.Agree.{Agrees, AgreesAfter}
+use Rattle.osc_paging.specs.Agree.{Agrees}
 use Rattle.osc_paging.specs.CopyLaws.{IsNoTable, WritesElsewhere, AllElsewhere, KeepsTaken}
 use Rattle.osc_paging.proofs.Elsewhere.{jobs_elsewhere_keep, taking_keeps}
 use Rattle.osc_space.specs.Space.{Space, Draft, Outcome, Closing, Keeps}
 use Rattle.osc_space.specs.Finish.{finished}
 use Rattle.osc_space.specs.Fork.{table_frame_of}
 use Rattle.osc_space.specs.Share.{Regions, holders, shared_frames}
-use Rattle.osc_space.specs.Agree.{AllTaken}
 use Rattle.osc_parts.specs.Frames.{among, vacant, one_where, frames_held, FramesFit, Trades}
-use Rattle.osc_parts.specs.Settled.{tables_of, PartsFit}
-use Rattle.osc_parts.specs.Jobs.{WritesWhere, AllWriteWhere, IsOwn, PushesOwn}
-use Rattle.osc_parts.specs.PlanFits.{with_jobs, gives_block, PlanFits}
-use Rattle.osc_parts.proofs.Counts.{taken_at, all_taken}
-use Rattle.osc_parts.proofs.Trading.{held_is, vacant_there, vacant_once, held_taken, shared_same, fits, held_once, quiet_taken, quiet_apart}
+use Rattle.osc_parts.specs.Settled.{PartsFit}
+use Rattle.osc_parts.specs.Jobs.{WritesWhere, AllWriteWhere, IsOwn}
+use Rattle.osc_parts.specs.PlanFits.{with_jobs, PlanFits}
+use Rattle.osc_parts.proofs.Trading.{held_is, held_taken, shared_same, fits, held_once, quiet_taken}
 use Rattle.osc_parts.proofs.Settling.{settled_frames}
 use Rattle.osc_calls.specs.Kernel.{Process}
 use Rattle.osc_settled.specs.Memory.{Memory, draft_in, entries_in, held_by, shared_by, held, shared, one_if, at_rest, Returns, SpaceFits, IsBare, MemoryFits}
-use Rattle.osc_settled.proofs.Lists.{get-put_same, get-put_other, length-put, sum-put, one_within, two_within, some_same}
+use Rattle.osc_settled.proofs.Lists.{get-put_same, get-put_other, sum-put, one_within, two_within, some_same}
 
 -- ---- frames
 -- a frame below the count that is not free is taken

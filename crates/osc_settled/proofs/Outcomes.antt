@@ -1,19 +1,15 @@
 -- The plan of a call on one process's memory keeps what holds.
-use Rattle.std.proofs.Common.{ℕ, zero, suc, ◌+◌, ◌-◌, ◌≡◌, ◌≢◌, ◌<◌, ◌≤◌, ◌==◌, Bool, true, false, cond, Option, Some, None, List, [], ◌∷◌, ◌++◌, length, slice_get, slice_set, arith, refl, ap, sym, ◌∙◌, subst, inl}
-use Rattle.std.specs.List.{sum_by}
-use Rattle.osc_word.specs.declared.job_list.Job.{Job}
-use Rattle.osc_space.specs.Space.{Draft, Outcome, Closing, Keeps, GivesBack}
+use Rattle.std.proofs.Common.{ℕ, ◌≡◌, ◌≤◌, ◌==◌, Bool, true, false, cond, Some, None, List, ◌++◌, slice_get, slice_set, arith, refl, ap, sym, ◌∙◌, subst, inl}
+use Rattle.osc_space.specs.Space.{Outcome, Closing, Keeps, GivesBack}
 use Rattle.osc_parts.specs.Jobs.{AllWriteWhere, IsOwn}
 use Rattle.osc_parts.specs.PlanFits.{PlanFits}
 use Rattle.osc_parts.proofs.Blocks.{all_weaker}
-use Rattle.osc_calls.specs.Kernel.{KernelState, Process, Calling, UnderWay, Waiting, process_at}
-use Rattle.osc_calls.specs.Labels.{out_count}
+use Rattle.osc_calls.specs.Kernel.{KernelState, Process, Calling, Waiting, process_at}
 use Rattle.osc_calls.specs.Refusals.{draft_of}
-use Rattle.osc_calls.specs.Planned.{Planned, closing_effect, outcome_planned}
-use Rattle.osc_calls.specs.Plan.{committed}
+use Rattle.osc_calls.specs.Planned.{closing_effect, outcome_planned}
 use Rattle.osc_settled.specs.Memory.{Memory, memory_of, SpaceFits, MemoryFits}
 use Rattle.osc_settled.specs.Records.{is_living, ends_by, ending, RecordsFit}
-use Rattle.osc_settled.specs.UnderWay.{closing_of, HasAlone, made_by, is_end, record_by, EffectFits, WaitingFits, UnderWayFits}
+use Rattle.osc_settled.specs.UnderWay.{closing_of, HasAlone, made_by, record_by, EffectFits, WaitingFits, UnderWayFits}
 use Rattle.osc_settled.specs.KernelFits.{SizesFit, KernelFits}
 use Rattle.osc_settled.specs.KeepLaws.{FitsCaller, OutcomesKeep}
 use Rattle.osc_settled.proofs.Lists.{get-put_same, length-put}

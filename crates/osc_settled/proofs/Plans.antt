@@ -1,16 +1,15 @@
 -- Each call's plan keeps what holds, by cases on the call.
-use Rattle.std.proofs.Common.{ℕ, zero, suc, ◌+◌, ◌≡◌, ◌==◌, Bool, true, false, Option, Some, None, List, [], ◌∷◌, ◌++◌, slice_get, arith, refl, ap, sym, ◌∙◌, subst, ◌%◌, unwrap_or}
+use Rattle.std.proofs.Common.{ℕ, ◌≡◌, Option, Some, None, List, [], ◌∷◌, ◌++◌, arith, refl, ap, sym, ◌∙◌, subst, ◌%◌, unwrap_or}
 use Rattle.osc_word.specs.declared.calls.Call.{Call}
 use Rattle.osc_word.specs.declared.calls.Call.TheVariants as calls
 use Rattle.osc_word.specs.declared.calls.Answer.TheVariants as answers
 use Rattle.osc_word.specs.Environment.{fault_status}
 use Rattle.osc_space.specs.Header.{Found}
 use Rattle.osc_calls.specs.Threads.{join_look}
-use Rattle.osc_calls.specs.Kernel.{KernelState, Process, Calling, UnderWay, Waiting, process_at, is_last}
+use Rattle.osc_calls.specs.Kernel.{KernelState, Process, Calling, process_at, is_last}
 use Rattle.osc_calls.specs.Reports.{report_of}
 use Rattle.osc_calls.specs.Requests.{meant, wait_look, join_answer, wait_answer}
-use Rattle.osc_calls.specs.Planned.{Planned}
-use Rattle.osc_calls.specs.Plan.{plan_meant, plan_of, committed, plan_by, plan_waiting, plan}
+use Rattle.osc_calls.specs.Plan.{plan_meant, plan_of, plan_by, plan_waiting, plan}
 use Rattle.osc_settled.specs.Records.{is_living}
 use Rattle.osc_settled.specs.KernelFits.{KernelFits}
 use Rattle.osc_settled.specs.KeepLaws.{PlansKeep}

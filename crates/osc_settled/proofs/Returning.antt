@@ -1,6 +1,6 @@
 -- A kernel that is given back keeps what holds, by cases on the call under way.
-use Rattle.std.proofs.Common.{ℕ, ◌≡◌, Bool, Option, Some, None, List, [], slice_get, arith, refl, ap, sym, ◌∙◌, subst}
-use Rattle.osc_calls.specs.Kernel.{KernelState, Process, Calling, Committed, UnderWay, Quiet, Retrying, Leaving, Waiting, Returning, Effect, Nothing, Clears, Starts, Ends, process_at}
+use Rattle.std.proofs.Common.{ℕ, ◌≡◌, Option, Some, None, List, [], slice_get, arith, refl, ap, sym, ◌∙◌, subst}
+use Rattle.osc_calls.specs.Kernel.{KernelState, Process, Committed, UnderWay, Quiet, Retrying, Leaving, Waiting, Returning, Effect, Nothing, Clears, Starts, Ends, process_at}
 use Rattle.osc_calls.specs.Finish.{hart_left, settled, returned, finish_by, finish}
 use Rattle.osc_settled.specs.Memory.{memory_of, MemoryFits}
 use Rattle.osc_settled.specs.Records.{is_living, ends_by, ending, RecordsFit}

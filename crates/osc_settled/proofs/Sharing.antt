@@ -1,6 +1,5 @@
 -- A share keeps what holds.
-use Rattle.std.proofs.Common.{ℕ, zero, suc, ◌+◌, ◌-◌, ◌*◌, ◌/◌, ◌^◌, ◌≡◌, ◌≢◌, ◌<◌, ◌≤◌, ◌==◌, nat_lt, nat_le, ◌&&◌, ◌||◌, Bool, true, false, not, cond, Option, Some, None, is_some, List, [], ◌∷◌, ◌++◌, length, map, filter, take, slice_get, slice_set, arith, refl, ap, sym, ◌∙◌, subst, ◌⊎◌, inl, inr}
-use Rattle.std.specs.List.{sum_by}
+use Rattle.std.proofs.Common.{ℕ, zero, suc, ◌+◌, ◌^◌, ◌≡◌, ◌≢◌, ◌<◌, ◌≤◌, ◌==◌, nat_lt, Bool, true, false, Option, Some, None, is_some, List, [], ◌∷◌, ◌++◌, length, map, take, slice_get, slice_set, arith, refl, ap, sym, ◌∙◌, subst, ◌⊎◌, inl, inr}
 use Rattle.std.proofs.lemmas.Bool.Decides.{nat_tests}
 use Rattle.std.proofs.lemmas.List.{append_assoc}
 use Rattle.std.proofs.lemmas.Option.{slice_get_within}
@@ -9,25 +8,21 @@ use Rattle.osc_word.specs.declared.calls.Answer.TheVariants as answers
 use Rattle.osc_word.specs.declared.calls.Call.TheVariants as calls
 use Rattle.osc_word.specs.declared.job_list.Job.{Job}
 use Rattle.osc_word.specs.declared.settings.HeapKind.{HeapKind}
-use Rattle.osc_word.specs.AddressMap.{is_shared}
 use Rattle.osc_sv39.specs.declared.entries.Mapping.{Mapping}
 use Rattle.osc_slot.specs.Heap.{free_count}
-use Rattle.osc_slot.proofs.Backing.{length-set, free_count-give, free_count-le}
-use Rattle.osc_paging.specs.declared.TableFrame.{TableFrame}
-use Rattle.osc_paging.specs.KeptTables.{KeptTables, mapping_at, need, root_of, levels_of}
+use Rattle.osc_slot.proofs.Backing.{free_count-give, free_count-le}
+use Rattle.osc_paging.specs.KeptTables.{mapping_at, need, root_of, levels_of}
 use Rattle.osc_paging.specs.TableChanges.{Changed, zero_job, map_pages}
 use Rattle.osc_paging.specs.JobWords.{words_after}
 use Rattle.osc_paging.specs.Agree.{Agrees}
-use Rattle.osc_paging.specs.CopyLaws.{KeepsTaken}
 use Rattle.osc_space.specs.LeafFlags.{read_write_at}
-use Rattle.osc_space.specs.Space.{Space, Draft, Closing, Keeps, Reason, reason, first_reason, lack_of_frames}
-use Rattle.osc_space.specs.Fork.{table_frame_of, heap_frame_of, frame_of_page, image_frames, free_numbers, set_free}
-use Rattle.osc_space.specs.Share.{Regions, Sharing, holders, hold, shared_pages, shared_frames, next_shared_page, share_address, share_frames, share_plan, share_reasons}
+use Rattle.osc_space.specs.Space.{Space, Draft, Keeps, reason, first_reason, lack_of_frames}
+use Rattle.osc_space.specs.Fork.{frame_of_page, free_numbers, set_free}
+use Rattle.osc_space.specs.Share.{Regions, Sharing, holders, hold, shared_pages, shared_frames, next_shared_page, share_address, share_plan, share_reasons}
 use Rattle.osc_space.specs.Agree.{AreApart, AllTaken, SpaceAgrees}
-use Rattle.osc_parts.specs.Frames.{among, vacant, one_where, frames_held, frames_mapped, FramesFit}
-use Rattle.osc_parts.specs.Settled.{tables_of, PartsFit, Settled}
-use Rattle.osc_parts.specs.Jobs.{AllWriteWhere, Pushed}
-use Rattle.osc_parts.specs.OthersFit.{HoldsApart, StandsBeside}
+use Rattle.osc_parts.specs.Frames.{among, vacant, frames_held, FramesFit}
+use Rattle.osc_parts.specs.Settled.{Settled}
+use Rattle.osc_parts.specs.Jobs.{AllWriteWhere}
 use Rattle.osc_parts.specs.ShareLaws.{ShareFits}
 use Rattle.osc_parts.proofs.Counts.{once_apart, all_taken, taken_but, given_length}
 use Rattle.osc_parts.proofs.Trading.{held_is, held_once, held_taken, vacant_once, vacant_there}
@@ -35,18 +30,16 @@ use Rattle.osc_parts.proofs.JobCounts.{IsOf, map_pages-links, length-mapped}
 use Rattle.osc_parts.proofs.Settling.{settled_frames}
 use Rattle.osc_parts.proofs.Blocks.{all_weaker, where_append}
 use Rattle.osc_parts.proofs.MallocParts.{high_enough, some_root}
-use Rattle.osc_parts.proofs.SharedPages.{among_take, among_free, numbers_count, length_take, Taken, taken, hold_length, hold_each, Shares, map_pages-shares}
+use Rattle.osc_parts.proofs.SharedPages.{among_take, among_free, numbers_count, length_take, Taken, taken, hold_each, Shares, map_pages-shares}
 use Rattle.osc_parts.proofs.ShareParts.{shares_fit}
 use Rattle.osc_calls.specs.Kernel.{KernelState, Process, Calling, process_at}
-use Rattle.osc_calls.specs.Labels.{out_count}
 use Rattle.osc_calls.specs.Refusals.{draft_of, sharing_of, refusal_of}
-use Rattle.osc_calls.specs.Planned.{Planned, answered, planned_unless}
+use Rattle.osc_calls.specs.Planned.{answered, planned_unless}
 use Rattle.osc_calls.specs.ProcessPlans.{with_sharing, share_done}
-use Rattle.osc_settled.specs.Memory.{Memory, memory_of, draft_in, entries_in, held_by, shared_by, held, shared, one_if, SpaceFits, IsBare, MemoryFits}
+use Rattle.osc_settled.specs.Memory.{Memory, memory_of, draft_in, entries_in, held_by, shared_by, held, one_if, SpaceFits, IsBare, MemoryFits}
 use Rattle.osc_settled.specs.UnderWay.{HasAlone, is_end}
-use Rattle.osc_settled.specs.KernelFits.{SizesFit}
 use Rattle.osc_settled.proofs.Lists.{get-put_same, get-put_other, length-put, sum-put, some_same}
-use Rattle.osc_settled.proofs.Memories.{Undisturbed, frames_stay, keeps_returns, returns_keeps, UsedOnce, undisturbed, closes_for}
+use Rattle.osc_settled.proofs.Memories.{keeps_returns, returns_keeps, UsedOnce}
 use Rattle.osc_settled.proofs.Commits.{lives_none, none_lives, living_put, records_stay, Owed}
 use Rattle.osc_settled.proofs.Outcomes.{Asks, caller_lives, closes_nothing}
 use Rattle.osc_settled.proofs.Answering.{answered_owed, settled}
@@ -345,9 +338,9 @@ share_no_end n s answer e = first_no_end (reason (n == 0) answers.Empty ∷ lack
 shares_each_in : (kind : HeapKind) (batch : ℕ) (entries : ℕ → ℕ → ℕ) (words : List ℕ) (regions : Regions) (n : ℕ) (d : Draft) → Settled kind batch entries words regions d
     → first_reason (share_reasons n (record { tables = d.space.tables; regions = regions; free = d.free; jobs = d.jobs })) ≡ None
     → SharesEach d.space (record (d.space) { tables = (share_plan n (record { tables = d.space.tables; regions = regions; free = d.free; jobs = d.jobs })).tables }) regions
-        (share_plan n (record { tables = d.space.tables; regions = regions; free = d.free; jobs = d.jobs })).regions d.free
-        (share_plan n (record { tables = d.space.tables; regions = regions; free = d.free; jobs = d.jobs })).free d.jobs
-        (share_plan n (record { tables = d.space.tables; regions = regions; free = d.free; jobs = d.jobs })).jobs
+    (share_plan n (record { tables = d.space.tables; regions = regions; free = d.free; jobs = d.jobs })).regions d.free
+    (share_plan n (record { tables = d.space.tables; regions = regions; free = d.free; jobs = d.jobs })).free d.jobs
+    (share_plan n (record { tables = d.space.tables; regions = regions; free = d.free; jobs = d.jobs })).jobs
 unfolding share_plan share_reasons
 shares_each_in kind batch entries words regions n d k e =
     shares_each kind batch entries words regions n d k (enough (n == 0) (nat_lt (free_count d.free) (n + need d.space.tables (next_shared_page d.space.tables) n)) refl e)

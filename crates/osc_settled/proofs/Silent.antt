@@ -1,5 +1,5 @@
 -- Plans on one process's memory answer no end, and write nothing out.
-use Rattle.std.proofs.Common.{ℕ, zero, suc, ◌+◌, ◌/◌, ◌%◌, min, ◌≡◌, ◌==◌, Bool, true, false, cond, Option, Some, None, List, [], ◌∷◌, ◌++◌, length, map, position, arith, refl, ap, sym, ◌∙◌, subst}
+use Rattle.std.proofs.Common.{ℕ, zero, suc, ◌+◌, ◌/◌, ◌%◌, min, ◌≡◌, ◌==◌, Bool, true, false, cond, Option, Some, None, List, [], ◌∷◌, ◌++◌, map, position, arith, refl, ap, sym, ◌∙◌}
 use Rattle.std.specs.List.{sum_by, range_with_len}
 use Rattle.std.proofs.lemmas.List.Sums.{sum_by-cons, sum_by-append}
 use Rattle.osc_word.specs.declared.settings.HeapKind.{HeapKind}
@@ -23,13 +23,13 @@ use Rattle.osc_space.specs.declared.ObjectFact.{ObjectFact}
 use Rattle.osc_space.specs.declared.ObjectState.{ObjectState}
 use Rattle.osc_space.specs.declared.ObjectState.TheVariants.{Live, Dead}
 use Rattle.osc_space.specs.Objects.{Seen, object_at, next_page}
-use Rattle.osc_space.specs.Space.{Draft, Outcome, Reason, Terms, first_reason, unless, unchanged, push, change, with_changed}
+use Rattle.osc_space.specs.Space.{Draft, Outcome, Reason, Terms, first_reason, unless, unchanged, push, change}
 use Rattle.osc_space.specs.BlockWords.{block_mappings, mappings_of, size_job, Stretch, stretches, zero_jobs, zero_block, header_jobs, part_job, copy_jobs, trim_jobs, block_word, words_in, whole_end, words_end}
 use Rattle.osc_space.specs.Header.{block_of, Found, death_reasons, damage_reason, object_reasons}
 use Rattle.osc_space.specs.Malloc.{memory_reasons, malloc_reasons, grant_object, place_block, map_shadows, block_need, fill_block, malloc_in, malloc_plan}
 use Rattle.osc_space.specs.Free.{kill_object, await, unmap_all, unmap_object, reclaim_all, clear_jobs, flush, let_wait, flush_where, freed, free_seen, free_plan, is_full, dead_leaves, waiting_facts}
 use Rattle.osc_space.specs.Realloc.{keep_bytes, stays, realloc_plan, realloc_seen, realloc_made, realloc_in, realloc_reasons, bytes_jobs, place_where, block_for, frames_for}
-use Rattle.osc_space.specs.PlainHeap.{plain_malloc_plan, plain_free_plan, plain_free_of, plain_realloc_plan, plain_realloc_of, plain_realloc_reasons, plain_resize, plain_reasons, plain_stay, plain_move, plain_malloc_in, kept_bytes, unmap_emptied, let_go_plain, emptied_pages, copy_block, place_plain, map_blocks}
+use Rattle.osc_space.specs.PlainHeap.{plain_malloc_plan, plain_free_plan, plain_free_of, plain_realloc_plan, plain_realloc_of, plain_realloc_reasons, plain_resize, plain_reasons, plain_malloc_in, kept_bytes, unmap_emptied, emptied_pages, copy_block, place_plain, map_blocks}
 use Rattle.osc_calls.specs.Labels.{out_count}
 use Rattle.osc_calls.specs.HeapPlans.{malloc_by, free_by, free_of, realloc_by}
 use Rattle.osc_settled.specs.UnderWay.{is_end}

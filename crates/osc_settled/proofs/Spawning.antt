@@ -1,8 +1,7 @@
 -- A spawn keeps what holds.
-use Rattle.std.proofs.Common.{ℕ, zero, suc, ◌+◌, ◌-◌, ◌≡◌, ◌≢◌, ◌<◌, ◌≤◌, ◌==◌, ◌&&◌, ◌⊎◌, inl, inr, nat_lt, not, Bool, true, false, cond, Option, Some, None, is_none, is_some, unwrap_or, List, [], ◌∷◌, ◌++◌, length, position, get_or, slice_get, slice_set, arith, refl, ap, sym, ◌∙◌, subst}
-use Rattle.std.specs.List.{sum_by}
+use Rattle.std.proofs.Common.{ℕ, zero, suc, ◌+◌, ◌≡◌, ◌≢◌, ◌<◌, ◌⊎◌, inl, inr, nat_lt, not, Bool, true, false, Option, Some, None, is_none, unwrap_or, List, [], ◌∷◌, ◌++◌, length, get_or, slice_get, slice_set, arith, refl, ap, sym, ◌∙◌, subst}
 use Rattle.std.proofs.lemmas.Bool.Decides.{nat_tests}
-use Rattle.std.proofs.lemmas.Option.{slice_get_within, slice_get-get_or}
+use Rattle.std.proofs.lemmas.Option.{slice_get-get_or}
 use Rattle.std.proofs.lemmas.List.{length-append}
 use Rattle.std.proofs.lemmas.List.Quantifiers.{position-Some}
 use Rattle.osc_word.specs.declared.calls.Call.TheVariants as calls
@@ -15,9 +14,9 @@ use Rattle.osc_calls.specs.declared.HartRecord.TheVariants.{Idle, Runs, Stopped}
 use Rattle.osc_calls.specs.Threads.{thread_at, new_number, spawned, has_room}
 use Rattle.osc_calls.specs.Kernel.{KernelState, Process, Calling, process_at, root_frame, root_in, is_idle, idle_hart, runs}
 use Rattle.osc_word.specs.declared.orders.Start.{Start}
-use Rattle.osc_space.specs.Space.{Closing, Keeps, reason, first_reason}
+use Rattle.osc_space.specs.Space.{Keeps, reason, first_reason}
 use Rattle.osc_calls.specs.Refusals.{refusal_of, no_hart, no_thread}
-use Rattle.osc_calls.specs.Planned.{Planned, planned_unless}
+use Rattle.osc_calls.specs.Planned.{planned_unless}
 use Rattle.osc_calls.specs.ProcessPlans.{new_hart, spawn_start, spawn_made, spawn_done}
 use Rattle.osc_settled.specs.Memory.{memory_of}
 use Rattle.osc_settled.specs.Records.{is_living, goes_on, is_at_work, RecordsFit}
@@ -192,8 +191,11 @@ spawn_made_owed words k c p pc sp arg hart a e i l = record {
   lives = caller_lives words k c a;
   caller = get-put_other k.records hart c.hart (Runs c.pid (Some (new_number k.threads))) other ∙ a.waits.caller;
   jobs = more_writes (HasAlone k.regions (process_at k c.pid)) k.jobs (Tell hart ∷ []) a.waits.jobs (tt, tt);
-  effect = (refl, start_fits (spawn_made hart (new_number k.threads) c.pid (the_start k c p pc sp arg) k).kernel p c.hart hart (Some (new_number k.threads)) (the_start k c p pc sp arg)
-      other (get-put_same k.records hart Idle (Runs c.pid (Some (new_number k.threads))) i) e refl refl refl);
+  effect = (
+    refl,
+    start_fits (spawn_made hart (new_number k.threads) c.pid (the_start k c p pc sp arg) k).kernel p c.hart hart (Some (new_number k.threads)) (the_start k c p pc sp arg)
+        other (get-put_same k.records hart Idle (Runs c.pid (Some (new_number k.threads))) i) e refl refl refl,
+  );
 }
   where
     other : hart ≢ c.hart

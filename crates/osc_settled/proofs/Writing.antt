@@ -1,17 +1,15 @@
 -- A write keeps what holds.
-use Rattle.std.proofs.Common.{ℕ, zero, suc, ◌+◌, ◌-◌, ◌*◌, ◌/◌, ◌%◌, ◌≡◌, ◌<◌, ◌≤◌, nat_lt, min, max, Bool, true, false, cond, Option, Some, None, unwrap_or, List, [], ◌∷◌, ◌++◌, length, arith, refl, ap, sym, ◌∙◌, subst}
-use Rattle.std.specs.List.{range_with_len, flat_map, sum_by}
-use Rattle.std.proofs.lemmas.Bool.Decides.{nat_tests}
+use Rattle.std.proofs.Common.{ℕ, zero, suc, ◌+◌, ◌-◌, ◌*◌, ◌/◌, ◌%◌, ◌≡◌, ◌≤◌, nat_lt, min, max, Bool, true, false, cond, Option, Some, None, unwrap_or, List, [], ◌∷◌, ◌++◌, length, arith, refl, ap, sym, subst}
+use Rattle.std.specs.List.{range_with_len, flat_map}
 use Rattle.std.proofs.lemmas.List.Concat.{flat_map-cons}
 use Rattle.std.proofs.lemmas.List.Sums.{sum_by-append}
 use Rattle.osc_word.specs.declared.job_list.Job.{Job}
 use Rattle.osc_word.specs.declared.job_list.Job.TheVariants.{ToOut}
 use Rattle.osc_word.specs.declared.calls.Answer.TheVariants as answers
 use Rattle.osc_paging.specs.KeptTables.{KeptTables}
-use Rattle.osc_space.specs.Space.{Closing, Keeps}
+use Rattle.osc_space.specs.Space.{Keeps}
 use Rattle.osc_calls.specs.Kernel.{KernelState, Process, Calling, process_at}
 use Rattle.osc_calls.specs.Labels.{out_count}
-use Rattle.osc_calls.specs.Planned.{Planned, answered}
 use Rattle.osc_calls.specs.WritePlan.{write_count, load_frame, first_unreadable, out_job, word_job, out_jobs, write_by, write_plan}
 use Rattle.osc_settled.specs.Memory.{memory_of}
 use Rattle.osc_settled.specs.UnderWay.{HasAlone}

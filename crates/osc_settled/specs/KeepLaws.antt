@@ -1,16 +1,12 @@
 -- The laws of steps: each keeps what holds of the kernel and of the words.
-use Rattle.std.specs.Prelude.{ℕ, ◌≡◌, ◌≢◌, Bool, true, false, List, [], ◌∷◌, Some, None, sum_by, slice_get}
-use Rattle.osc_word.specs.declared.calls.Call.{Call}
-use Rattle.osc_word.specs.declared.calls.Call.TheVariants as calls
+use Rattle.std.specs.Prelude.{ℕ, ◌≡◌, false, List, [], ◌∷◌, Some, sum_by}
 use Rattle.osc_word.specs.declared.calls.Request.{Request}
 use Rattle.osc_word.specs.declared.job_list.Job.{Job}
 use Rattle.osc_paging.specs.JobWords.{words_done}
 use Rattle.osc_space.specs.Space.{Outcome}
 use Rattle.osc_space.specs.Header.{Found}
 use Rattle.osc_parts.specs.PlanFits.{PlanFits}
-use Rattle.osc_calls.specs.declared.Begun.TheVariants as begun
-use Rattle.osc_calls.specs.Kernel.{KernelState, Process, Calling, UnderWay, Quiet, Waiting, process_at}
-use Rattle.osc_calls.specs.Requests.{calling_of, meant}
+use Rattle.osc_calls.specs.Kernel.{KernelState, Process, Calling, Quiet, Waiting, process_at}
 use Rattle.osc_calls.specs.Begin.{begin}
 use Rattle.osc_calls.specs.Finish.{finish}
 use Rattle.osc_calls.specs.Refusals.{draft_of}

@@ -1,6 +1,6 @@
 -- What the memories of all processes have in common with the machine's frames and with the words of
 -- memory, at every moment. This project's own.
-use Rattle.std.specs.Prelude.{ℕ, zero, suc, ◌+◌, ◌≡◌, ◌<◌, Bool, true, Option, Some, None, List, [], length, slice_get, sum_by}
+use Rattle.std.specs.Prelude.{ℕ, zero, suc, ◌+◌, ◌≡◌, ◌<◌, Bool, true, Some, None, List, [], length, slice_get, sum_by}
 use Rattle.osc_word.specs.declared.settings.HeapKind.{HeapKind}
 use Rattle.osc_word.specs.declared.job_list.Job.{Job}
 use Rattle.osc_slot.specs.declared.Block.{Block}
