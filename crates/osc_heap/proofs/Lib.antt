@@ -10,3 +10,4 @@ pub mod Tells
 pub mod Held
 pub mod Places
 pub mod SlotBits
+pub mod Alone

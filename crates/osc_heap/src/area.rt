@@ -73,6 +73,21 @@ impl Area {
         slot_bits::least_as(&self.held, page * slots, slots, true).is_some()
     }
 
+    /// Whether a page holds a block at another slot than this one, where a page has so many slots.
+    pub fn has_other(&self, page: usize, slots: usize, slot: usize) -> bool
+        requires page { page * slots + slots ≤ length self.now }
+        requires slot { (page * slots ≤ slot) × (slot < page * slots + slots) }
+        ensures { result ≡ page_held slots (slice_set self.now slot false) page }
+    {
+        let held = self.held.as_slice();
+        let first = page * slots;
+        let end = first + slots;
+        if slot_bits::least_as(held, first, slot - first, true).is_some() {
+            return true;
+        }
+        slot_bits::least_as(held, slot + 1, end - (slot + 1), true).is_some()
+    }
+
     /// The least free slot of a page that holds a block.
     pub fn free_beside(&self, page: usize, slots: usize) -> Option<usize>
         requires { page * slots + slots ≤ length self.now }

@@ -1,6 +1,6 @@
 //! The areas of a heap: which slot the next block takes, and what it needs.
 
-ghost use Rattle.std.specs.Prelude.{◌≡◌, ◌+◌, ◌*◌, ◌/◌, ◌<◌, ◌≤◌, not, is_some, length, map, IfOk};
+ghost use Rattle.std.specs.Prelude.{◌≡◌, ◌+◌, ◌*◌, ◌/◌, ◌<◌, ◌≤◌, not, false, is_some, length, map, IfOk};
 ghost use Rattle.osc_slot.specs.Least.{least};
 ghost use Rattle.osc_class.specs.declared.Room.TheVariants.{Small};
 ghost use Rattle.osc_class.specs.Rooms.{IsRoom};
@@ -172,6 +172,38 @@ pub fn pages_alone(areas: &[Area], frames: u32, room: Room, slot: usize) -> u64
     match room {
         Room::Small(class) => {
             if has_block(areas, frames, class, slot / slots_of(class)) {
+                0
+            } else {
+                1
+            }
+        }
+        Room::Pages(pages) => pages,
+    }
+}
+
+// Whether the page of a slot of a class holds a block at another slot.
+fn has_other(areas: &[Area], frames: u32, class: u8, slot: usize) -> bool
+    requires most { frames ≤ 4096 }
+    requires areas { (length areas.now ≡ 13 + frames) × AreSized frames 0 areas.now }
+    requires is_class { class < 13 }
+    requires within { slot < slots_in frames (Small class) }
+    ensures { result ≡ has_block (bits (with_bit areas.now (Small class) slot false)) class (slot / slots_of class) }
+{
+    let slots = slots_of(class);
+    area_for(areas, frames, Room::Small(class)).has_other(slot / slots, slots, slot)
+}
+
+/// The pages of a held block at a slot that hold no other.
+pub fn own_pages(areas: &[Area], frames: u32, room: Room, slot: usize) -> u64
+    requires most { frames ≤ 4096 }
+    requires areas { (length areas.now ≡ 13 + frames) × AreSized frames 0 areas.now }
+    requires is_room { IsRoom room }
+    requires within { slot < slots_in frames room }
+    ensures { result ≡ pages_alone (bits (with_bit areas.now room slot false)) room slot }
+{
+    match room {
+        Room::Small(class) => {
+            if has_other(areas, frames, class, slot) {
                 0
             } else {
                 1

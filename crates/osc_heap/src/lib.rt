@@ -12,10 +12,11 @@ mod rest;
 mod slot_bits;
 mod slots;
 
-ghost use Rattle.std.specs.Prelude.{◌≡◌, ◌+◌, ◌<◌, ◌≤◌, length, is_some, true, Some, IfOk, IfSome};
-ghost use Rattle.osc_class.specs.Rooms.{IsRoom};
+ghost use Rattle.std.specs.Prelude.{◌≡◌, ◌+◌, ◌/◌, ◌<◌, ◌≤◌, filter, length, is_some, not, true, Some, IfOk, IfSome};
+ghost use Rattle.std.specs.List.{range_with_len};
+ghost use Rattle.osc_class.specs.Rooms.{IsRoom, shadow_pages};
 ghost use Rattle.osc_slot.specs.Slots.{is_held, is_covered, least_start, need};
-ghost use Rattle.osc_slot.specs.Heap.{IsHeap, FramesAgree, AreNames, empty_heap, next_block, place, release, clear, copy, frame_of, block_of_user, free_count};
+ghost use Rattle.osc_slot.specs.Heap.{IsHeap, FramesAgree, AreNames, empty_heap, next_block, place, release, without_block, clear, copy, frame_of, block_of_user, free_count};
 
 use crate::area::Area;
 use crate::page_sets::PageSets;
@@ -103,6 +104,32 @@ impl CanonHeap {
         } else {
             None
         }
+    }
+
+    /// The next block of a room, before it is placed: the one that `place` answers.
+    pub fn next_block(&self, room: Room, frames: &Frames) -> Block
+        requires is_room { IsRoom room }
+        requires frames_agree { FramesAgree self.now frames.now }
+        requires enough { need self.now.frames self.now.held room ≤ free_count frames.now }
+        ensures block { result ≡ next_block self.now room }
+        ensures valid { IsHeap self.now }
+    {
+        prove!(self.need(room) <= u64::from(frames.free_count()));
+        let slot = areas::least_slot(&self.areas, &self.told, self.frames, room).unwrap();
+        let start = slots::start_of(self.frames, room, slot);
+        Block { start, room }
+    }
+
+    /// How many pages of a held block, from its first on, hold no other.
+    pub fn pages_alone(&self, block: Block) -> u64
+        requires { is_held self.now.held block ≡ true }
+        ensures pages { filter (λ page. not (is_covered (without_block block self.now.held) page))
+            (range_with_len (block.start / 4096) (shadow_pages block.room)) ≡ range_with_len (block.start / 4096) result }
+        ensures is_room { IsRoom block.room }
+        ensures valid { IsHeap self.now }
+    {
+        let slot = slots::slot_near(self.frames, block.room, block.start);
+        areas::own_pages(&self.areas, self.frames, block.room, slot)
     }
 
     /// Places the next block of a room: at the least free slot on a page of its class that holds a
