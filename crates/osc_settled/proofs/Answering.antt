@@ -47,6 +47,7 @@ answered_owed words k c answer a e = record {
   room = a.waits.room;
   memory = closes_nothing words (memory_of k) c.pid a.memory;
   records = a.records;
+  manned = a.manned;
   lives = caller_lives words k c a;
   caller = a.waits.caller ∙ ap (λ b. Some (record_by b c)) (sym e);
   jobs = subst (λ js. AllWriteWhere (HasAlone k.regions (process_at k c.pid)) js) (sym a.waits.jobs) tt;

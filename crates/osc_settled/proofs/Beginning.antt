@@ -12,7 +12,7 @@ use Rattle.osc_calls.specs.Requests.{calling_of, meant, is_ready}
 use Rattle.osc_calls.specs.Begin.{first_step, begun_in, no_words, begin_as, begin_call, begin}
 use Rattle.osc_space.specs.Space.{Keeps}
 use Rattle.osc_settled.specs.Memory.{memory_of, MemoryFits}
-use Rattle.osc_settled.specs.Records.{ending, RecordsFit}
+use Rattle.osc_settled.specs.Records.{ending, RecordsFit, AllManned}
 use Rattle.osc_settled.specs.UnderWay.{closing_of, UnderWayFits}
 use Rattle.osc_settled.specs.KernelFits.{SizesFit, KernelFits}
 use Rattle.osc_settled.specs.KeepLaws.{BeginsKeep}
@@ -23,6 +23,7 @@ pub record AtRest (words : List ℕ) (k : KernelState) : Type 0 where
   pub sizes : SizesFit words k
   pub memory : MemoryFits words (memory_of k) (λ q. Keeps)
   pub records : RecordsFit k.processes k.threads k.records None
+  pub manned : AllManned k.processes k.records None
   pub jobs : k.jobs ≡ []
 
 pub at_rest : (words : List ℕ) (k : KernelState) → KernelFits words k → k.under_way ≡ Quiet → AtRest words k
@@ -30,6 +31,7 @@ at_rest words k f e = record {
   sizes = f.sizes;
   memory = subst (λ u. MemoryFits words (memory_of k) (closing_of u)) e f.memory;
   records = subst (λ u. RecordsFit k.processes k.threads k.records (ending u)) e f.records;
+  manned = subst (λ u. AllManned k.processes k.records (ending u)) e f.manned;
   jobs = subst (λ u. UnderWayFits k u) e f.under_way;
 }
 
@@ -52,13 +54,13 @@ same_sizes words k u s = record {
 }
 
 pub rests_quiet : (words : List ℕ) (k : KernelState) → AtRest words k → KernelFits words (taken Quiet k)
-rests_quiet words k r = record { sizes = same_sizes words k Quiet r.sizes; memory = r.memory; records = r.records; under_way = r.jobs }
+rests_quiet words k r = record { sizes = same_sizes words k Quiet r.sizes; memory = r.memory; records = r.records; manned = r.manned; under_way = r.jobs }
 
 rests_retrying : (words : List ℕ) (k : KernelState) → AtRest words k → KernelFits words (taken Retrying k)
-rests_retrying words k r = record { sizes = same_sizes words k Retrying r.sizes; memory = r.memory; records = r.records; under_way = r.jobs }
+rests_retrying words k r = record { sizes = same_sizes words k Retrying r.sizes; memory = r.memory; records = r.records; manned = r.manned; under_way = r.jobs }
 
 rests_leaving : (words : List ℕ) (k : KernelState) (hart : ℕ) → AtRest words k → KernelFits words (taken (Leaving hart) k)
-rests_leaving words k hart r = record { sizes = same_sizes words k (Leaving hart) r.sizes; memory = r.memory; records = r.records; under_way = r.jobs }
+rests_leaving words k hart r = record { sizes = same_sizes words k (Leaving hart) r.sizes; memory = r.memory; records = r.records; manned = r.manned; under_way = r.jobs }
 
 rests_waiting : (words : List ℕ) (k : KernelState) (c : Calling) → AtRest words k → has_journal_room k ≡ true → slice_get k.records c.hart ≡ Some (Runs c.pid c.thread)
     → KernelFits words (taken (Waiting c) k)
@@ -66,6 +68,7 @@ rests_waiting words k c r room e = record {
   sizes = same_sizes words k (Waiting c) r.sizes;
   memory = r.memory;
   records = r.records;
+  manned = r.manned;
   under_way = record { jobs = r.jobs; room = below (length k.journal) k.config.journal room; caller = e };
 }
   where

@@ -11,7 +11,7 @@ use Rattle.osc_calls.specs.Kernel.{Process, Calling, Effect, Nothing, Clears, St
 use Rattle.osc_calls.specs.Planned.{Planned}
 use Rattle.osc_calls.specs.Plan.{committed, journal_entry}
 use Rattle.osc_settled.specs.Memory.{memory_of, MemoryFits}
-use Rattle.osc_settled.specs.Records.{is_living, ends_by, RecordsFit}
+use Rattle.osc_settled.specs.Records.{is_living, ends_by, RecordsFit, AllManned}
 use Rattle.osc_settled.specs.UnderWay.{HasAlone, made_by, is_end, record_by, EffectFits}
 use Rattle.osc_settled.specs.KernelFits.{SizesFit, KernelFits}
 use Rattle.osc_settled.proofs.Lists.{get-put_same, get-put_other}
@@ -67,6 +67,7 @@ pub record Owed (words : List ℕ) (c : Calling) (m : Planned) : Type 0 where
   pub room : length m.kernel.journal < m.kernel.config.journal
   pub memory : MemoryFits words (memory_of m.kernel) (closes_for c.pid m.closing)
   pub records : RecordsFit m.kernel.processes m.kernel.threads m.kernel.records (ends_by c.pid m.effect)
+  pub manned : AllManned m.kernel.processes m.kernel.records (ends_by c.pid m.effect)
   pub lives : is_living (process_at m.kernel c.pid) ≡ true
   pub caller : slice_get m.kernel.records c.hart ≡ Some (record_by (is_end m.answer) c)
   pub jobs : AllWriteWhere (HasAlone m.kernel.regions (process_at m.kernel (made_by m.effect c.pid))) m.kernel.jobs
@@ -95,6 +96,7 @@ commits words c m o = record {
   };
   memory = o.memory;
   records = o.records;
+  manned = o.manned;
   under_way = record {
     last = last_of m.kernel.journal (journal_entry c m.answer);
     lives = o.lives;

@@ -8,11 +8,12 @@ use Rattle.osc_calls.specs.declared.Report.{Report}
 use Rattle.osc_calls.specs.declared.HartRecord.{HartRecord}
 use Rattle.osc_calls.specs.declared.HartRecord.TheVariants.{Idle, Runs, Stopped}
 use Rattle.osc_calls.specs.Threads.{thread_at, put_value, thread_done}
-use Rattle.osc_calls.specs.Kernel.{KernelState, Process, Calling, process_at}
+use Rattle.osc_calls.specs.Kernel.{KernelState, Process, Calling, process_at, is_last}
 use Rattle.osc_calls.specs.ProcessPlans.{record_stopped, records_ended, process_ends, value_left, done_by}
 use Rattle.osc_settled.specs.Memory.{memory_of}
-use Rattle.osc_settled.specs.Records.{is_living, goes_on, is_at_work, RecordsFit}
+use Rattle.osc_settled.specs.Records.{is_living, goes_on, is_at_work, RecordsFit, IsManned}
 use Rattle.osc_settled.specs.UnderWay.{HasAlone}
+use Rattle.osc_settled.proofs.Manned.{manned_put, manned_ended, manned_rest, runs_other}
 use Rattle.osc_settled.proofs.Lists.{get-put_same, get-put_other, length-put, some_same}
 use Rattle.osc_settled.proofs.Commits.{Owed}
 use Rattle.osc_settled.proofs.Outcomes.{Asks, caller_lives, closes_nothing}
@@ -243,6 +244,17 @@ records_idle ps threads after records ends hart f k = record {
   spawned = k.spawned;
 }
 
+-- ---- who still has a hart
+no_end : (q : ℕ) → None ≢ Some q
+no_end q x = let z : ⊥ = grind (arith, x) in z
+
+manned_left : (records : List HartRecord) (hart pid q : ℕ) (thread : Option ℕ) (b : Bool) → (pid == q) ≡ b → is_last records pid ≡ false → slice_get records hart ≡ Some (Runs pid thread)
+    → IsManned records q → IsManned (slice_set records hart Idle) q
+manned_left records hart pid q thread true d last e m =
+    let same : pid ≡ q = grind (arith, nat_tests, d) in subst (λ x. IsManned (slice_set records hart Idle) x) same (manned_rest records hart pid thread last e)
+manned_left records hart pid q thread false d last e m =
+    let n : pid ≢ q = grind (arith, nat_tests, d) in manned_put records hart q (Runs pid thread) Idle e (λ t. runs_other pid q thread t n) m
+
 -- ---- the plans
 -- the kernel with other threads and reports
 abbrev pub with_threads : List Thread → List Report → KernelState → KernelState
@@ -267,6 +279,7 @@ ends_owed words k c status after reports a stay l = record {
   room = a.waits.room;
   memory = closes_nothing words (memory_of k) c.pid a.memory;
   records = records_gone k.processes k.threads after k.records c.hart c.pid c.thread a.records a.waits.caller stay;
+  manned = λ q l n. manned_ended k.records c.hart c.pid q c.thread a.waits.caller (λ x. n (ap (λ y. Some y) x)) (a.manned q l (no_end q));
   lives = caller_lives words k c a;
   caller = get-put_same (map (record_stopped c.pid) k.records) c.hart (record_stopped c.pid (Runs c.pid c.thread)) Idle
       (slice_get-map (record_stopped c.pid) k.records c.hart ∙ ap (option_map (record_stopped c.pid)) a.waits.caller);
@@ -275,10 +288,10 @@ ends_owed words k c status after reports a stay l = record {
 }
 
 -- a thread that is not its process's last
-leaves_owed : (words : List ℕ) (k : KernelState) (c : Calling) (after : List Thread)
+leaves_owed : (words : List ℕ) (k : KernelState) (c : Calling) (after : List Thread) → is_last k.records c.pid ≡ false
     → Asks words k c → ThreadsStay k.processes k.records c.hart after → length after ≡ length k.threads
     → Owed words c (done_by false c (with_threads after k.reports k))
-leaves_owed words k c after a stay l = record {
+leaves_owed words k c after last a stay l = record {
   sizes = record {
     config = a.sizes.config;
     memory = a.sizes.memory;
@@ -294,6 +307,7 @@ leaves_owed words k c after a stay l = record {
   room = a.waits.room;
   memory = closes_nothing words (memory_of k) c.pid a.memory;
   records = records_idle k.processes k.threads after k.records None c.hart a.records stay;
+  manned = λ q l n. manned_left k.records c.hart c.pid q c.thread (c.pid == q) refl last a.waits.caller (a.manned q l (no_end q));
   lives = caller_lives words k c a;
   caller = get-put_same k.records c.hart (Runs c.pid c.thread) Idle a.waits.caller;
   jobs = subst (λ js. AllWriteWhere (HasAlone k.regions (process_at k c.pid)) js) (sym a.waits.jobs) tt;
@@ -304,12 +318,12 @@ left_is : (thread : Option ℕ) (value : ℕ) (k : KernelState) → value_left t
 left_is None value k = refl
 left_is (Some number) value k = refl
 
-pub done_owed : (words : List ℕ) (k : KernelState) (c : Calling) (value : ℕ) (last : Bool) → Asks words k c → Owed words c (done_by last c (value_left c.thread value k))
-done_owed words k c value last a = subst (λ (x : KernelState). Owed words c (done_by last c x)) (sym (left_is c.thread value k)) (go last)
+pub done_owed : (words : List ℕ) (k : KernelState) (c : Calling) (value : ℕ) (last : Bool) → is_last k.records c.pid ≡ last → Asks words k c → Owed words c (done_by last c (value_left c.thread value k))
+done_owed words k c value last is a = subst (λ (x : KernelState). Owed words c (done_by last c x)) (sym (left_is c.thread value k)) (go last is)
   where
     stay : ThreadsStay k.processes k.records c.hart (threads_left c.thread value k.threads)
     stay = threads_stay_left k.processes k.threads k.records None c.hart c.pid value c.thread a.records a.waits.caller
 
-    go : (b : Bool) → Owed words c (done_by b c (with_threads (threads_left c.thread value k.threads) k.reports k))
-    go true = ends_owed words k c 0 (threads_left c.thread value k.threads) k.reports a stay (length-left c.thread value k.threads)
-    go false = leaves_owed words k c (threads_left c.thread value k.threads) a stay (length-left c.thread value k.threads)
+    go : (b : Bool) → is_last k.records c.pid ≡ b → Owed words c (done_by b c (with_threads (threads_left c.thread value k.threads) k.reports k))
+    go true e = ends_owed words k c 0 (threads_left c.thread value k.threads) k.reports a stay (length-left c.thread value k.threads)
+    go false e = leaves_owed words k c (threads_left c.thread value k.threads) e a stay (length-left c.thread value k.threads)

@@ -22,9 +22,10 @@ use Rattle.osc_calls.specs.Refusals.{draft_of}
 use Rattle.osc_calls.specs.Planned.{with_draft}
 use Rattle.osc_calls.specs.Finish.{hart_left}
 use Rattle.osc_settled.specs.Memory.{Memory, memory_of, entries_in, held_by, shared_by, at_rest, SpaceFits, IsBare, MemoryFits}
-use Rattle.osc_settled.specs.Records.{RecordsFit}
+use Rattle.osc_settled.specs.Records.{RecordsFit, AllManned}
 use Rattle.osc_settled.specs.UnderWay.{closing_of, ReturningFits}
 use Rattle.osc_settled.specs.KernelFits.{SizesFit}
+use Rattle.osc_settled.proofs.Manned.{manned_put, all_put}
 use Rattle.osc_settled.proofs.Lists.{get-put_same, get-put_other, length-put, sum-put, some_same}
 use Rattle.osc_settled.proofs.Memories.{Undisturbed, frames_stay, parts_stay, keeps_returns, returns_keeps, UsedOnce, undisturbed, closes_for}
 use Rattle.osc_settled.proofs.Commits.{lives_none, living_put, records_stay}
@@ -148,9 +149,9 @@ return_memory words m pid p closing fit none at lives = record {
 
 -- ---- the kernel
 pub returned_rests : (words : List ℕ) (k : KernelState) (done : Committed) (p : Process) → SizesFit words k → MemoryFits words (memory_of k) (closing_of (Returning done))
-    → RecordsFit k.processes k.threads k.records None → ReturningFits k done → k.jobs ≡ [] → process_at k done.calling.pid ≡ Some p
+    → RecordsFit k.processes k.threads k.records None → AllManned k.processes k.records None → ReturningFits k done → k.jobs ≡ [] → process_at k done.calling.pid ≡ Some p
     → AtRest words (with_draft done.calling.pid p (finished done.closing (draft_of k p)) k)
-returned_rests words k done p s m r u none e =
+returned_rests words k done p s m r v u none e =
     subst (λ (js : List Job). AtRest words (with_draft done.calling.pid p (finished done.closing (record { space = p.space; free = k.free; jobs = js })) k)) (sym none) (record {
       sizes = record {
         config = s.config;
@@ -168,6 +169,7 @@ returned_rests words k done p s m r u none e =
       records = records_stay k.processes (slice_set k.processes done.calling.pid (returned_process p (finished done.closing (at_rest p.space k.free)))) k.threads k.records None r
           (λ q. living_put k.processes done.calling.pid p (returned_process p (finished done.closing (at_rest p.space k.free))) q e refl)
           (length-put k.processes done.calling.pid (returned_process p (finished done.closing (at_rest p.space k.free))));
+      manned = all_put k.processes k.records done.calling.pid p (returned_process p (finished done.closing (at_rest p.space k.free))) None v e refl;
       jobs = mine.returns.jobs;
     })
   where
@@ -210,5 +212,6 @@ left_rests words k hart (Some (Stopped pid)) e r = record {
   };
   memory = r.memory;
   records = records_idle k.processes k.threads k.threads k.records None hart r.records (threads_stay k.processes k.threads k.records None hart r.records);
+  manned = λ q l n. manned_put k.records hart q (Stopped pid) Idle e (λ t x. (let z : ⊥ = cc in z)) (r.manned q l n);
   jobs = r.jobs;
 }

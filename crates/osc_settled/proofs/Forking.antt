@@ -39,8 +39,9 @@ use Rattle.osc_calls.specs.Refusals.{draft_of, no_hart, no_process, refusal_of}
 use Rattle.osc_calls.specs.Planned.{planned_unless}
 use Rattle.osc_calls.specs.ProcessPlans.{new_hart, fork_start, child_process, fork_made, fork_done}
 use Rattle.osc_settled.specs.Memory.{Memory, memory_of, draft_in, entries_in, held_by, shared_by, held, shared, one_if, SpaceFits, IsBare, MemoryFits}
-use Rattle.osc_settled.specs.Records.{is_living, RecordsFit}
+use Rattle.osc_settled.specs.Records.{is_living, RecordsFit, IsManned}
 use Rattle.osc_settled.specs.UnderWay.{HasAlone, is_end}
+use Rattle.osc_settled.proofs.Manned.{manned_put, manned_new}
 use Rattle.osc_settled.proofs.Lists.{get-put_same, get-put_other, length-put, one_within, some_same}
 use Rattle.osc_settled.proofs.Memories.{keeps_returns, returns_keeps, UsedOnce, taken_there}
 use Rattle.osc_settled.proofs.Apart.{holds_apart}
@@ -293,6 +294,12 @@ living_more [] child q l = absurd (omega arith)
 living_more (p ∷ ps) child zero l = refl
 living_more (p ∷ ps) child (suc q) l = living_more ps child q (omega (arith, l))
 
+living_but : (ps : List Process) (child : Process) (q : ℕ) → length ps ≢ q → is_living (slice_get (ps ++ child ∷ []) q) ≡ is_living (slice_get ps q)
+living_but [] child zero n = absurd (n refl)
+living_but [] child (suc q) n = refl
+living_but (p ∷ ps) child zero n = refl
+living_but (p ∷ ps) child (suc q) n = living_but ps child q (λ e. n (ap (λ k. suc k) e))
+
 length_more : (ps : List Process) (child : Process) → length (ps ++ child ∷ []) ≡ length ps + 1
 length_more ps child = let a = length-append ps (child ∷ []) in omega (arith, a)
 
@@ -354,6 +361,7 @@ forked_owed words k c p hart f a e idle room none t = record {
       (ap is_living (get-last k.processes (child_process c.pid f.child))) (λ q u h. h) refl
       (λ h g. (let z = sym (a.records.lives h (length k.processes) None g) ∙ ap is_living (past_none k.processes) in let w : ⊥ = grind (arith, z) in w))
       with_child.spawned;
+  manned = λ q l n. manned q (length k.processes == q) refl l n;
   lives = living_more k.processes (child_process c.pid f.child) c.pid (living_within k.processes c.pid (caller_lives words k c a)) ∙ caller_lives words k c a;
   caller = get-put_other k.records hart c.hart (Runs (length k.processes) None) other ∙ a.waits.caller;
   jobs = subst (λ x. AllWriteWhere (HasAlone (join f.child.tables k.regions) x) (k.jobs ++ f.jobs)) (sym (get-last k.processes (child_process c.pid f.child)))
@@ -373,6 +381,16 @@ forked_owed words k c p hart f a e idle room none t = record {
 
     lives : p.status ≡ None
     lives = lives_none p (process_at k c.pid) e (caller_lives words k c a)
+
+    manned : (q : ℕ) (b : Bool) → (length k.processes == q) ≡ b → is_living (slice_get (k.processes ++ child_process c.pid f.child ∷ []) q) ≡ true → None ≢ Some q
+        → IsManned (slice_set k.records hart (Runs (length k.processes) None)) q
+    manned q true d l n =
+        let same : length k.processes ≡ q = grind (arith, nat_tests, d) in
+        subst (λ x. IsManned (slice_set k.records hart (Runs (length k.processes) None)) x) same (manned_new k.records hart (length k.processes) Idle None idle)
+    manned q false d l n =
+        let not_new : length k.processes ≢ q = grind (arith, nat_tests, d) in
+        manned_put k.records hart q Idle (Runs (length k.processes) None) idle (λ t x. (let z : ⊥ = cc in z))
+        (a.manned q (sym (living_but k.processes (child_process c.pid f.child) q not_new) ∙ l) n)
 
     other : hart ≢ c.hart
     other = idle_other k.records hart c.hart c.pid c.thread idle a.waits.caller

@@ -16,7 +16,7 @@ use Rattle.osc_calls.specs.declared.HartRecord.TheVariants.{Stopped}
 use Rattle.osc_calls.specs.Kernel.{KernelState, Process, process_at}
 use Rattle.osc_calls.specs.Finish.{with_ended}
 use Rattle.osc_settled.specs.Memory.{Memory, memory_of, entries_in, held_by, shared_by, shared, one_if, SpaceFits, IsBare, MemoryFits}
-use Rattle.osc_settled.specs.Records.{is_living, RecordsFit}
+use Rattle.osc_settled.specs.Records.{is_living, RecordsFit, AllManned}
 use Rattle.osc_settled.specs.KernelFits.{SizesFit}
 use Rattle.osc_settled.proofs.Lists.{get-put_same, get-put_other, length-put, sum-put, one_within, two_within, some_same}
 use Rattle.osc_settled.proofs.Memories.{frames_stay, keeps_returns, returns_keeps, UsedOnce, undisturbed, closes_for}
@@ -182,9 +182,9 @@ records_after_end ps threads records pid status p r f at over = record {
 
 -- ---- the kernel
 pub gone_rests : (words : List ℕ) (k : KernelState) (pid status : ℕ) (p : Process) (closing : Closing) → SizesFit words k → MemoryFits words (memory_of k) (closes_for pid closing)
-    → closing ≡ Keeps → RecordsFit k.processes k.threads k.records (Some pid) → k.jobs ≡ [] → process_at k pid ≡ Some p → p.status ≡ None
+    → closing ≡ Keeps → RecordsFit k.processes k.threads k.records (Some pid) → AllManned k.processes k.records (Some pid) → k.jobs ≡ [] → process_at k pid ≡ Some p → p.status ≡ None
     → AtRest words (with_ended pid status p (ended k.regions p.space k.free) k)
-gone_rests words k pid status p closing s m keeps r none at lives = record {
+gone_rests words k pid status p closing s m keeps r v none at lives = record {
   sizes = record {
     config = s.config;
     memory = s.memory;
@@ -199,9 +199,19 @@ gone_rests words k pid status p closing s m keeps r none at lives = record {
   };
   memory = gone_memory words (memory_of k) pid status p closing m keeps none at lives;
   records = records_after_end k.processes k.threads k.records pid status p (process_gone p status (ended k.regions p.space k.free)) r at refl;
+  manned = λ q l n. v q (sym (ap is_living (get-put_other k.processes pid q (process_gone p status (ended k.regions p.space k.free)) (alive q l))) ∙ l)
+      (λ x. alive q l (some_same pid q x));
   jobs = none;
 }
   where
+    dead : is_living (slice_get (slice_set k.processes pid (process_gone p status (ended k.regions p.space k.free))) pid) ≡ false
+    dead = ap is_living (get-put_same k.processes pid p (process_gone p status (ended k.regions p.space k.free)) at)
+
+    alive : (q : ℕ) → is_living (slice_get (slice_set k.processes pid (process_gone p status (ended k.regions p.space k.free))) q) ≡ true → pid ≢ q
+    alive q l same =
+        let z : true ≡ false = sym (subst (λ x. is_living (slice_get (slice_set k.processes pid (process_gone p status (ended k.regions p.space k.free))) x) ≡ true) (sym same) l) ∙ dead in
+        let w : ⊥ = grind (arith, z) in w
+
     itself : (n : ℕ) → (n == n) ≡ true
     itself n = grind (arith, nat_tests)
 

@@ -95,6 +95,7 @@ work_done word words k job jobs f e = record {
     holders = f.memory.holders;
   };
   records = f.records;
+  manned = f.manned;
   under_way = under-work k job jobs (output_after word (Some job) k.output) k.under_way e f.under_way;
 }
 

@@ -23,3 +23,4 @@ pub mod Taking
 pub mod Laying
 pub mod Starting
 pub mod Shadows
+pub mod Manned

@@ -1,5 +1,5 @@
 -- The plan of a call on one process's memory keeps what holds.
-use Rattle.std.proofs.Common.{ℕ, ◌≡◌, ◌≤◌, ◌==◌, Bool, true, false, cond, Some, None, List, ◌++◌, slice_get, slice_set, arith, refl, ap, sym, ◌∙◌, subst, inl}
+use Rattle.std.proofs.Common.{◌≢◌, ℕ, ◌≡◌, ◌≤◌, ◌==◌, Bool, true, false, cond, Some, None, List, ◌++◌, slice_get, slice_set, arith, refl, ap, sym, ◌∙◌, subst, inl}
 use Rattle.osc_space.specs.Space.{Outcome, Closing, Keeps, GivesBack}
 use Rattle.osc_parts.specs.Jobs.{AllWriteWhere, IsOwn}
 use Rattle.osc_parts.specs.PlanFits.{PlanFits}
@@ -8,7 +8,7 @@ use Rattle.osc_calls.specs.Kernel.{KernelState, Process, Calling, Waiting, proce
 use Rattle.osc_calls.specs.Refusals.{draft_of}
 use Rattle.osc_calls.specs.Planned.{closing_effect, outcome_planned}
 use Rattle.osc_settled.specs.Memory.{Memory, memory_of, SpaceFits, MemoryFits}
-use Rattle.osc_settled.specs.Records.{is_living, ends_by, ending, RecordsFit}
+use Rattle.osc_settled.specs.Records.{is_living, ends_by, ending, RecordsFit, AllManned}
 use Rattle.osc_settled.specs.UnderWay.{closing_of, HasAlone, made_by, record_by, EffectFits, WaitingFits, UnderWayFits}
 use Rattle.osc_settled.specs.KernelFits.{SizesFit, KernelFits}
 use Rattle.osc_settled.specs.KeepLaws.{FitsCaller, OutcomesKeep}
@@ -21,6 +21,7 @@ pub record Asks (words : List ℕ) (k : KernelState) (c : Calling) : Type 0 wher
   pub sizes : SizesFit words k
   pub memory : MemoryFits words (memory_of k) (λ q. Keeps)
   pub records : RecordsFit k.processes k.threads k.records None
+  pub manned : AllManned k.processes k.records None
   pub waits : WaitingFits k c
 
 pub asks : (words : List ℕ) (k : KernelState) (c : Calling) → KernelFits words k → k.under_way ≡ Waiting c → Asks words k c
@@ -28,6 +29,7 @@ asks words k c f e = record {
   sizes = f.sizes;
   memory = subst (λ u. MemoryFits words (memory_of k) (closing_of u)) e f.memory;
   records = subst (λ u. RecordsFit k.processes k.threads k.records (ending u)) e f.records;
+  manned = subst (λ u. AllManned k.processes k.records (ending u)) e f.manned;
   waits = subst (λ u. UnderWayFits k u) e f.under_way;
 }
 
@@ -82,6 +84,7 @@ outcome_owed words k c p o a e f = record {
   records = subst (λ ends. RecordsFit (slice_set k.processes c.pid (made p o)) k.threads k.records ends) (sym (ends_none o.closing c.pid))
       (records_stay k.processes (slice_set k.processes c.pid (made p o)) k.threads k.records None a.records
       (λ q. living_put k.processes c.pid p (made p o) q e refl) (length-put k.processes c.pid (made p o)));
+  manned = λ q l n. a.manned q (sym (living_put k.processes c.pid p (made p o) q e refl) ∙ l) (no_end q);
   lives = none_lives (made p o) (slice_get (slice_set k.processes c.pid (made p o)) c.pid) there lives;
   caller = a.waits.caller ∙ ap (λ b. Some (record_by b c)) (sym f.answer);
   jobs = subst (λ x. AllWriteWhere (HasAlone k.regions x) o.draft.jobs) (sym (ap (slice_get (slice_set k.processes c.pid (made p o))) (made_caller o.closing c.pid) ∙ there))
@@ -90,6 +93,9 @@ outcome_owed words k c p o a e f = record {
   effect = effect_fits (outcome_planned c.pid p k o).kernel c o.closing;
 }
   where
+    no_end : (q : ℕ) → None ≢ Some q
+    no_end q x = let z : ⊥ = grind (arith, x) in z
+
     any : PlanFits k.config.heap k.config.batch (λ frame index. 0) words k.regions (draft_of k p) o
     any = f.each (λ frame index. 0)
 

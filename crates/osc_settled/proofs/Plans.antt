@@ -34,7 +34,7 @@ row words found c p k calls.Fork a e = fork_owed words k c p a e
 row words found c p k (calls.Spawn pc sp arg) a e = spawn_owed words k c p pc sp arg a e
 row words found c p k (calls.Join number) a e =
     answered_owed words k c (unwrap_or (join_answer (join_look k.threads c.pid number)) answers.Unknown) a (join_no_end (join_look k.threads c.pid number))
-row words found c p k (calls.Done value) a e = done_owed words k c value (is_last k.records c.pid) a
+row words found c p k (calls.Done value) a e = done_owed words k c value (is_last k.records c.pid) refl a
 row words found c p k (calls.Share count) a e = share_owed words k c p count a e
 row words found c p k (calls.Wait number) a e =
     answered_owed words k c (unwrap_or (wait_answer (wait_look k c.pid number)) answers.Unknown) a (wait_no_end (wait_look k c.pid number))

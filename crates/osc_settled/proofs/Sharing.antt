@@ -38,6 +38,7 @@ use Rattle.osc_calls.specs.Planned.{answered, planned_unless}
 use Rattle.osc_calls.specs.ProcessPlans.{with_sharing, share_done}
 use Rattle.osc_settled.specs.Memory.{Memory, memory_of, draft_in, entries_in, held_by, shared_by, held, one_if, SpaceFits, IsBare, MemoryFits}
 use Rattle.osc_settled.specs.UnderWay.{HasAlone, is_end}
+use Rattle.osc_settled.proofs.Manned.{all_put}
 use Rattle.osc_settled.proofs.Lists.{get-put_same, get-put_other, length-put, sum-put, some_same}
 use Rattle.osc_settled.proofs.Memories.{keeps_returns, returns_keeps, UsedOnce}
 use Rattle.osc_settled.proofs.Commits.{lives_none, none_lives, living_put, records_stay, Owed}
@@ -299,6 +300,7 @@ sharing_owed words k c p n s address a e t w = record {
   memory = closes_nothing words (memory_sharing (memory_of k) c.pid p s) c.pid (sharing_memory words (memory_of k) c.pid n p s a.memory a.waits.jobs e lives t);
   records = records_stay k.processes (slice_set k.processes c.pid (process_sharing p s)) k.threads k.records None a.records
       (λ q. living_put k.processes c.pid p (process_sharing p s) q e refl) (length-put k.processes c.pid (process_sharing p s));
+  manned = all_put k.processes k.records c.pid p (process_sharing p s) None a.manned e refl;
   lives = none_lives (process_sharing p s) (slice_get (slice_set k.processes c.pid (process_sharing p s)) c.pid) there lives;
   caller = a.waits.caller;
   jobs = subst (λ x. AllWriteWhere (HasAlone s.regions x) s.jobs) (sym there)

@@ -21,6 +21,7 @@ use Rattle.osc_calls.specs.ProcessPlans.{new_hart, spawn_start, spawn_made, spaw
 use Rattle.osc_settled.specs.Memory.{memory_of}
 use Rattle.osc_settled.specs.Records.{is_living, goes_on, is_at_work, RecordsFit}
 use Rattle.osc_settled.specs.UnderWay.{HasAlone, StartFits, runs_at}
+use Rattle.osc_settled.proofs.Manned.{manned_put}
 use Rattle.osc_settled.proofs.Lists.{get-put_same, get-put_other, length-put, some_same}
 use Rattle.osc_settled.proofs.Memories.{closes_for}
 use Rattle.osc_settled.proofs.Commits.{Owed}
@@ -188,6 +189,7 @@ spawn_made_owed words k c p pc sp arg hart a e i l = record {
       (works_more k.threads (record { pid = c.pid; value = None })) (works_new k.threads c.pid)
       (λ h g. (let z = sym (a.records.works h c.pid (Some (new_number k.threads)) g) ∙ no_thread_yet k.threads c.pid in let w : ⊥ = grind (arith, z) in w))
       within;
+  manned = λ q l n. manned_put k.records hart q Idle (Runs c.pid (Some (new_number k.threads))) i (λ t x. (let z : ⊥ = cc in z)) (a.manned q l n);
   lives = caller_lives words k c a;
   caller = get-put_other k.records hart c.hart (Runs c.pid (Some (new_number k.threads))) other ∙ a.waits.caller;
   jobs = more_writes (HasAlone k.regions (process_at k c.pid)) k.jobs (Tell hart ∷ []) a.waits.jobs (tt, tt);

@@ -1,5 +1,5 @@
 -- A kernel whose pages were all laid fits, with the words of its image.
-use Rattle.std.proofs.Common.{ℕ, zero, suc, ◌+◌, ◌*◌, ◌/◌, ◌%◌, ◌≡◌, ◌<◌, Bool, false, Option, Some, None, is_none, List, [], ◌∷◌, length, map, replicate, slice_get, arith, refl, ap, sym, ◌∙◌, subst}
+use Rattle.std.proofs.Common.{true, false, ◌≤◌, ℕ, zero, suc, ◌+◌, ◌*◌, ◌/◌, ◌%◌, ◌≡◌, ◌<◌, Bool, false, Option, Some, None, is_none, List, [], ◌∷◌, length, map, replicate, slice_get, arith, refl, ap, sym, ◌∙◌, subst}
 use Rattle.std.specs.List.{range_with_len}
 use Rattle.std.proofs.lemmas.List.{length-replicate}
 use Rattle.std.proofs.lemmas.List.FromFn.{get_or-map-range_with_len, length-map-range_with_len}
@@ -25,9 +25,10 @@ use Rattle.osc_calls.specs.declared.HartRecord.TheVariants.{Idle, Runs, Stopped}
 use Rattle.osc_calls.specs.Kernel.{KernelState, Process}
 use Rattle.osc_calls.specs.Open.{image_pages, all_pages, lay_all, rooted, first_records, first_space, first_process, kernel_with, word_by, open_word, open_words, open_kernel}
 use Rattle.osc_settled.specs.Memory.{memory_of, held_by, shared_by, one_if, SpaceFits}
-use Rattle.osc_settled.specs.Records.{RecordsFit}
+use Rattle.osc_settled.specs.Records.{RecordsFit, is_living, IsManned}
 use Rattle.osc_settled.specs.KernelFits.{KernelFits}
 use Rattle.osc_settled.specs.StartLaws.{StartsFit}
+use Rattle.osc_settled.proofs.Manned.{manned_new}
 use Rattle.osc_settled.proofs.Lists.{length-put, some_same}
 use Rattle.osc_settled.proofs.Memories.{keeps_returns}
 use Rattle.osc_settled.proofs.Spawning.{records_more}
@@ -127,8 +128,17 @@ kernel_fits image config zeros c valid ok l = record {
         let e : shared_by f (first_process config c.tables) ≡ 0 = ap (λ ms. among f (map frame_of_page ms)) l.none_shared in omega (arith, h, s, e));
   };
   records = first_records_fit (first_process config c.tables) config.harts refl;
+  manned = λ q l n. manned q l;
   under_way = refl;
 }
+  where
+    idle_first : (n : ℕ) → 1 ≤ n → slice_get (replicate n Idle) 0 ≡ Some Idle
+    idle_first zero m = absurd (omega arith)
+    idle_first (suc n) m = refl
+
+    manned : (q : ℕ) → is_living (slice_get (first_process config c.tables ∷ []) q) ≡ true → IsManned (first_records config.harts) q
+    manned zero m = manned_new (replicate config.harts Idle) 0 0 Idle None (idle_first config.harts ok.harts)
+    manned (suc q) m = absurd (let z : ⊥ = grind (arith, m) in z)
 
 pub starts_fit : StartsFit
 unfolding open_kernel open_words

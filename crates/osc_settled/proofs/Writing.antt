@@ -79,6 +79,7 @@ written_owed words k c t buf count a l = record {
   memory = more_memory words (memory_of k) (closes_for c.pid Keeps) (out_jobs t buf count) a.waits.jobs
       (pieces-read t buf (buf + count) (buf / 8) ((buf % 8 + count + 7) / 8)) (closes_nothing words (memory_of k) c.pid a.memory);
   records = a.records;
+  manned = a.manned;
   lives = caller_lives words k c a;
   caller = a.waits.caller;
   jobs = more_writes (HasAlone k.regions (process_at k c.pid)) k.jobs (out_jobs t buf count) a.waits.jobs (pieces-read t buf (buf + count) (buf / 8) ((buf % 8 + count + 7) / 8));

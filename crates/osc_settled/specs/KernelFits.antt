@@ -6,7 +6,7 @@ use Rattle.osc_word.specs.Environment.{thread_limit, output_limit}
 use Rattle.osc_calls.specs.Kernel.{KernelState}
 use Rattle.osc_calls.specs.Labels.{out_count}
 use Rattle.osc_settled.specs.Memory.{memory_of, MemoryFits}
-use Rattle.osc_settled.specs.Records.{ending, RecordsFit}
+use Rattle.osc_settled.specs.Records.{ending, RecordsFit, AllManned}
 use Rattle.osc_settled.specs.UnderWay.{closing_of, UnderWayFits}
 
 -- each list has its length, and no number passes its limit: the output with what is still to be written
@@ -26,4 +26,5 @@ pub record KernelFits (words : List ℕ) (k : KernelState) : Type 0 where
   pub sizes : SizesFit words k
   pub memory : MemoryFits words (memory_of k) (closing_of k.under_way)
   pub records : RecordsFit k.processes k.threads k.records (ending k.under_way)
+  pub manned : AllManned k.processes k.records (ending k.under_way)
   pub under_way : UnderWayFits k k.under_way

@@ -45,3 +45,14 @@ pub record RecordsFit (processes : List Process) (threads : List Thread) (record
   pub stopped : (hart pid : ℕ) → slice_get records hart ≡ Some (Stopped pid) → is_living (slice_get processes pid) ≡ true
       → ends ≡ Some pid
   pub spawned : (place : ℕ) (t : Thread) → slice_get threads place ≡ Some t → t.pid < length processes
+
+-- some hart runs a thread of the process
+pub record IsManned (records : List HartRecord) (pid : ℕ) : Type 0 where
+  pub hart : ℕ
+  pub thread : Option ℕ
+  pub at : slice_get records hart ≡ Some (Runs pid thread)
+
+-- so it is for each process that has not ended and does not end
+abbrev pub AllManned : List Process → List HartRecord → Option ℕ → Type 0
+AllManned processes records ends =
+    (pid : ℕ) → is_living (slice_get processes pid) ≡ true → ends ≢ Some pid → IsManned records pid
