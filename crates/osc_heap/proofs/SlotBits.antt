@@ -44,7 +44,7 @@ pub two_words : (words : List ℕ) (first j low high : ℕ) → low ≡ get_or w
     → bit_at (bit_or (low / 2 ^ (first % 64)) (high * 2 ^ (64 - first % 64) % 2 ^ 64)) j ≡ digit (has words (first + j))
 two_words words first j low high e f fit l =
     bit_at_or (low / 2 ^ (first % 64)) (high * 2 ^ (64 - first % 64) % 2 ^ 64) j
-      ∙ ⊎_elim (λ less. early less) (λ more. late more) (cases_lt (first % 64 + j) 64)
+    ∙ ⊎_elim (λ less. early less) (λ more. late more) (cases_lt (first % 64 + j) 64)
   where
     early : first % 64 + j < 64 → max (bit_at (low / 2 ^ (first % 64)) j) (bit_at (high * 2 ^ (64 - first % 64) % 2 ^ 64) j) ≡ digit (has words (first + j))
     early less =

@@ -66,7 +66,11 @@ pub fn set_bit(words: &mut [u64], number: usize, value: bool)
 {
     let word = number / 64;
     let bit = 1 << (number % 64);
-    words[word] = if value { words[word] | bit } else { words[word] & !bit };
+    words[word] = if value {
+        words[word] | bit
+    } else {
+        words[word] & !bit
+    };
 }
 
 /// Whether the bit of a number is 1.

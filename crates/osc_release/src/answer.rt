@@ -7,7 +7,10 @@ use osc_word::ObjectNo;
 pub enum FreePlan {
     /// The object is dead and waits. Where `flush`, all that wait are let go: their blocks are to be
     /// given back when the call returns.
-    Freed { object: ObjectNo, flush: bool },
+    Freed {
+        object: ObjectNo,
+        flush: bool,
+    },
     /// The first header word that differs from what is kept. Nothing was changed.
     HeaderDamaged {
         object: ObjectNo,

@@ -17,9 +17,7 @@ ghost use Rattle.osc_release.specs.Outcomes.{terms, found_of, freed_now, object_
 
 use crate::answer::FreePlan;
 use osc_mark::Marks;
-use osc_shadow::{
-    SeenObject, flush, header_damage, know_tables, object_with, unmap_shadows,
-};
+use osc_shadow::{SeenObject, flush, header_damage, know_tables, object_with, unmap_shadows};
 use osc_tables::Tables;
 use osc_word::{CallNo, Jobs, Waiting};
 
@@ -41,8 +39,8 @@ fn flush_batch(
     ensures full { result ≡ (length waiting.now == batch) }
     ensures next { (free : List Bool) → changed tables.new free jobs.new.pushed
         ≡ (if length waiting.now == batch
-            then flushed harts (leaves_over tables.old marks.now.objects (facts marks.now.objects waiting.now)) (changed tables.old free jobs.old.pushed)
-            else changed tables.old free jobs.old.pushed) }
+        then flushed harts (leaves_over tables.old marks.now.objects (facts marks.now.objects waiting.now)) (changed tables.old free jobs.old.pushed)
+        else changed tables.old free jobs.old.pushed) }
     ensures room { jobs.new.room ≡ jobs.old.room }
 {
     let is_full = waiting.count() == batch;
@@ -75,7 +73,7 @@ fn free_object(
     ensures plan { (heap : Heap) (free : List Bool)
         → freed_now result (draft_of tables.new marks.new heap waiting.new free jobs.new.pushed)
         ≡ freed seen.number (terms harts call batch)
-            (let_wait (terms harts call batch) (seen_of seen) (draft_of tables.old marks.old heap waiting.old free jobs.old.pushed)) }
+        (let_wait (terms harts call batch) (seen_of seen) (draft_of tables.old marks.old heap waiting.old free jobs.old.pushed)) }
     ensures object { object_in result ≡ seen.number }
     ensures room { jobs.new.room ≡ jobs.old.room }
 {
@@ -114,7 +112,7 @@ pub fn plan_free(
     ensures plan { (heap : Heap) (free : List Bool)
         → freed_now result (draft_of tables.new marks.new heap waiting.new free jobs.new.pushed)
         ≡ free_plan (terms harts call batch) pointer (found_of found)
-            (draft_of tables.old marks.old heap waiting.old free jobs.old.pushed) }
+        (draft_of tables.old marks.old heap waiting.old free jobs.old.pushed) }
     ensures object { number_at marks.old.objects pointer ≡ Some (object_in result) }
     ensures room { jobs.new.room ≡ jobs.old.room }
 {

@@ -64,11 +64,53 @@ fn frees_by_batch_and_header(rt: HostRuntime) -> Result<(), Fail> {
         value: 0,
     };
     let rows = [
-        (1, [canon, 24], FreePlan::Freed { object: 0, flush: true }, 3),
-        (2, [canon, 24], FreePlan::Freed { object: 0, flush: false }, 1),
-        (64, [canon, 24], FreePlan::Freed { object: 0, flush: false }, 1),
-        (1, [canon, 9], FreePlan::HeaderDamaged { object: 0, kept: 24, found: 9 }, 0),
-        (1, [8, 9], FreePlan::HeaderDamaged { object: 0, kept: canon, found: 8 }, 0),
+        (
+            1,
+            [canon, 24],
+            FreePlan::Freed {
+                object: 0,
+                flush: true,
+            },
+            3,
+        ),
+        (
+            2,
+            [canon, 24],
+            FreePlan::Freed {
+                object: 0,
+                flush: false,
+            },
+            1,
+        ),
+        (
+            64,
+            [canon, 24],
+            FreePlan::Freed {
+                object: 0,
+                flush: false,
+            },
+            1,
+        ),
+        (
+            1,
+            [canon, 9],
+            FreePlan::HeaderDamaged {
+                object: 0,
+                kept: 24,
+                found: 9,
+            },
+            0,
+        ),
+        (
+            1,
+            [8, 9],
+            FreePlan::HeaderDamaged {
+                object: 0,
+                kept: canon,
+                found: 8,
+            },
+            0,
+        ),
     ];
     for (batch, found, answer, pushed) in rows {
         let Some(mut m) = one_object(rt.alloc())? else {

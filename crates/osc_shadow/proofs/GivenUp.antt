@@ -151,12 +151,12 @@ giving_more t u v g gone jobs now later from leaf next order so least next_is ma
     let b : Bool = leaf_dead g.objects leaf && is_some (frame_of u.tables 0 leaf) in
     let p : ℕ → Bool = passes g gone in
     let here : (leaf_dead g.objects leaf && is_some (frame_of u.tables 0 leaf)) ≡ (passes g gone leaf && list_any (λ x. x == leaf) (linked_leaves t)) =
-        ap (λ f. leaf_dead g.objects leaf && is_some f) (so.same leaf least.above)
-        ∙ ap (λ k. leaf_dead g.objects leaf && k) (sym (is_leaf_there t.tables leaf))
-        ∙ sym (over_true (leaf_dead g.objects leaf) (is_over (facts g.objects gone) leaf) (list_any (λ x. x == leaf) (linked_leaves t)) least.passes) in
+    ap (λ f. leaf_dead g.objects leaf && is_some f) (so.same leaf least.above)
+    ∙ ap (λ k. leaf_dead g.objects leaf && k) (sym (is_leaf_there t.tables leaf))
+    ∙ sym (over_true (leaf_dead g.objects leaf) (is_over (facts g.objects gone) leaf) (list_any (λ x. x == leaf) (linked_leaves t)) least.passes) in
     let step : left_from t g gone from ≡ cond (leaf_dead g.objects leaf && is_some (frame_of u.tables 0 leaf)) (leaf ∷ left_from t g gone (leaf + 1)) (left_from t g gone (leaf + 1)) =
-        rest_next (passes g gone) from leaf 0 (linked_leaves t) (leaves_ascend t.tables order) least.above (λ x l m. not_over (leaf_dead g.objects x) (is_over (facts g.objects gone) x) (least.least x l m))
-        ∙ ap (λ k. cond k (leaf ∷ left_from t g gone (leaf + 1)) (left_from t g gone (leaf + 1))) (sym here) in
+    rest_next (passes g gone) from leaf 0 (linked_leaves t) (leaves_ascend t.tables order) least.above (λ x l m. not_over (leaf_dead g.objects x) (is_over (facts g.objects gone) x) (least.least x l m))
+    ∙ ap (λ k. cond k (leaf ∷ left_from t g gone (leaf + 1)) (left_from t g gone (leaf + 1))) (sym here) in
     let few_step = ap length step in
     let few = so.few in
     let one = after_few (leaf_dead g.objects leaf && is_some (frame_of u.tables 0 leaf)) leaf (left_from t g gone (leaf + 1)) (changed u [] now.pushed) in
@@ -185,7 +185,7 @@ over_low : (g : Grants) (gone : List ℕ) (leaf : ℕ) → AreMarked g → All (
 over_low g [] leaf m known over = cc
 over_low g (x ∷ gone) leaf m known over =
     go (slice_get-get_or g.objects x (get_or g.objects x none) (known 0 0 (omega arith)))
-       (over_low g gone leaf m (λ k d l. known (suc k) d (omega arith)))
+    (over_low g gone leaf m (λ k d l. known (suc k) d (omega arith)))
   where
     none : ObjectFact
     none = record { first = 0; pages = 0; size = 0; user = 0; canon = 0; state = Live }

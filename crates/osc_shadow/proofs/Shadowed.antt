@@ -38,8 +38,8 @@ maps_one pages all t u free now jobs after n page count n1 page1 count1 frame ca
     let put : changed u now after.pushed ≡ map_page n (read_write_at frame) (changed t free jobs.pushed) = made ∙ ap (λ k. map_page k (read_write_at frame) (changed t free jobs.pushed)) first.number in
     let rest = can_map_rest t u free now jobs after n count (read_write_at frame) can some put taken room in
     let steps : map_pages n (read_write_at frame ∷ mappings_of pages (page + 1) (count - 1)) (changed t free jobs.pushed) ≡ all =
-        ap (λ k. map_pages n (read_write_at k ∷ mappings_of pages (page + 1) (count - 1)) (changed t free jobs.pushed)) f
-        ∙ ap (λ ms. map_pages n ms (changed t free jobs.pushed)) (sym (next_mapping pages page count some)) ∙ next in
+    ap (λ k. map_pages n (read_write_at k ∷ mappings_of pages (page + 1) (count - 1)) (changed t free jobs.pushed)) f
+    ∙ ap (λ ms. map_pages n ms (changed t free jobs.pushed)) (sym (next_mapping pages page count some)) ∙ next in
     let on : map_pages (n + 1) (mappings_of pages (page + 1) (count - 1)) (changed u now after.pushed) ≡ all =
-        ap (λ x. map_pages (n + 1) (mappings_of pages (page + 1) (count - 1)) x) put ∙ steps in
+    ap (λ x. map_pages (n + 1) (mappings_of pages (page + 1) (count - 1)) x) put ∙ steps in
     rw (a, b, less) (record { can = rest; next = on })

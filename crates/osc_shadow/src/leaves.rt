@@ -76,8 +76,8 @@ fn give_up(tables: &mut Tables, marks: &Marks, leaf: u64, jobs: &mut Jobs)
     requires spare { 1 ≤ spare jobs.old }
     ensures next { (free : List Bool) → changed tables.new free jobs.new.pushed
         ≡ (if leaf_dead marks.now.objects leaf && is_some (frame_of tables.old.tables 0 leaf)
-            then reclaim leaf (changed tables.old free jobs.old.pushed)
-            else changed tables.old free jobs.old.pushed) }
+        then reclaim leaf (changed tables.old free jobs.old.pushed)
+        else changed tables.old free jobs.old.pushed) }
     ensures room { jobs.new.room ≡ jobs.old.room }
 {
     if marks.leaf_dead(leaf) && is_linked(tables, leaf) {

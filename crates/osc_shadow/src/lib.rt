@@ -18,12 +18,11 @@ pub use header::{Damage, SeenObject, header_at, header_damage, object_with};
 pub use leaves::{is_linked, next_leaf};
 pub use malloc::{Malloced, plan_malloc};
 pub use memory::{Lack, know_tables, memory_lack};
-pub use shadows::{map_shadows, unmap_shadows};
-pub use words::{HEADER, block_word, copy_bytes, fill_block, trim_block, zero_words};
-
 use osc_heap::CanonHeap;
 use osc_mark::Marks;
 use osc_tables::Tables;
+pub use shadows::{map_shadows, unmap_shadows};
+pub use words::{HEADER, block_word, copy_bytes, fill_block, trim_block, zero_words};
 
 /// The memory of one process: its page tables, its shadow pages with the objects that have them, and
 /// its heap of blocks.

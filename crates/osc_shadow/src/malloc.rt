@@ -63,12 +63,7 @@ fn give_object(
 /// Plans a malloc of `n` bytes: the next object, with fresh shadow pages over the next block of its
 /// room. It is refused for want of shadow pages, and then of frames; a refusal changes nothing.
 #[tactic(auto, unfolding(osc_space::specs::Malloc::malloc_plan))]
-pub fn plan_malloc(
-    space: &mut Space,
-    frames: &mut Frames,
-    jobs: &mut Jobs,
-    n: u64,
-) -> Malloced
+pub fn plan_malloc(space: &mut Space, frames: &mut Frames, jobs: &mut Jobs, n: u64) -> Malloced
     requires agree { PartsAgreeWaiting space.old.tables space.old.marks space.old.heap frames.old }
     requires spare { HasSpare jobs.old (length frames.old) }
     ensures plan { (waiting : List ℕ) → planned result (draft_now space.new waiting frames.new jobs.new)

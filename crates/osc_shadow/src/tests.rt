@@ -56,7 +56,13 @@ fn fresh(
 }
 
 /// The answer to the first malloc in such a machine.
-fn first_malloc(alloc: Global, frames: u32, shadows: u32, levels: u8, n: u64) -> Result<Option<Malloced>, AllocError>
+fn first_malloc(
+    alloc: Global,
+    frames: u32,
+    shadows: u32,
+    levels: u8,
+    n: u64,
+) -> Result<Option<Malloced>, AllocError>
     requires frames { frames ≤ 4096 }
     requires shadows { shadows ≤ 16777216 }
     requires levels { IsLevels levels }
@@ -105,14 +111,38 @@ fn first_malloc_leaves_jobs(rt: HostRuntime) -> Result<(), Fail> {
     assert_eq!(rt; answer, Malloced::Given { object: 0, pointer });
     let at = |frame, index| WordAt { frame, index };
     let jobs = [
-        Job::ZeroWords { at: at(1, 2), count: 4 },
-        Job::PutWord { at: at(1, 0), value: 0x20_0000_8010 },
-        Job::PutWord { at: at(1, 1), value: 24 },
-        Job::ZeroWords { at: at(2, 0), count: 512 },
-        Job::PutWord { at: at(0, 64), value: 0x801 },
-        Job::ZeroWords { at: at(3, 0), count: 512 },
-        Job::PutWord { at: at(2, 0), value: 0xc01 },
-        Job::PutWord { at: at(3, 0), value: 0x4d7 },
+        Job::ZeroWords {
+            at: at(1, 2),
+            count: 4,
+        },
+        Job::PutWord {
+            at: at(1, 0),
+            value: 0x20_0000_8010,
+        },
+        Job::PutWord {
+            at: at(1, 1),
+            value: 24,
+        },
+        Job::ZeroWords {
+            at: at(2, 0),
+            count: 512,
+        },
+        Job::PutWord {
+            at: at(0, 64),
+            value: 0x801,
+        },
+        Job::ZeroWords {
+            at: at(3, 0),
+            count: 512,
+        },
+        Job::PutWord {
+            at: at(2, 0),
+            value: 0xc01,
+        },
+        Job::PutWord {
+            at: at(3, 0),
+            value: 0x4d7,
+        },
     ];
     for (i, job) in jobs.iter().enumerate() {
         assert_eq!(rt; m.jobs.get(i as u32), Some(*job), "job {i}");
@@ -132,7 +162,10 @@ fn looks_by_pointer(rt: HostRuntime) -> Result<(), Fail> {
     let pointer = marks.fact(object).user;
     assert_eq!(rt; pointer, 0x10_0000_0010);
     assert_eq!(rt; header_at(&tables, &marks, 0), HeaderLook::Zero);
-    assert_eq!(rt; header_at(&tables, &marks, pointer + 8), HeaderLook::NotAnObject);
+    assert_eq!(rt;
+        header_at(&tables, &marks, pointer + 8),
+        HeaderLook::NotAnObject
+    );
     let is_live = matches!(marks.fact(object).state, osc_space::ObjectState::Live);
     assert!(rt; is_live);
     marks.kill(object, 7);

@@ -22,7 +22,7 @@ returns-clause-block c =
     let found : slot c.self.inside.frames (bits c.self.inside.areas.items) c.args.room ≡ Some c.unwrap-slot.result = sym (rw c.deref.ensures.value at c.least_slot.ensures) ∙ c.unwrap-slot.ensures in
     rw c.start_of-start.ensures.start
     (placed (to_place c.self.inside.frames c.self.inside.areas.items (pages_of c.self.inside.pages) (vec_capacity c.self.inside.pages.rest) c.args.self.now c.args.room c.args.frames.now c.self.view_is c.self.invariant.parts c.requires.frames_agree c.requires.is_room c.requires.enough)
-        c.unwrap-slot.result found
-        (back (need_over c.self.inside.frames (bits c.self.inside.areas.items) c.args.room) (start_of c.self.inside.frames c.args.room c.unwrap-slot.result / 4096) (record { pages = pages_of c.self.inside.pages; free = c.args.frames.now })).pages
-        (back (need_over c.self.inside.frames (bits c.self.inside.areas.items) c.args.room) (start_of c.self.inside.frames c.args.room c.unwrap-slot.result / 4096) (record { pages = pages_of c.self.inside.pages; free = c.args.frames.now })).free
-        (vec_capacity c.self.inside.pages.rest) (omega arith) refl refl).block
+    c.unwrap-slot.result found
+    (back (need_over c.self.inside.frames (bits c.self.inside.areas.items) c.args.room) (start_of c.self.inside.frames c.args.room c.unwrap-slot.result / 4096) (record { pages = pages_of c.self.inside.pages; free = c.args.frames.now })).pages
+    (back (need_over c.self.inside.frames (bits c.self.inside.areas.items) c.args.room) (start_of c.self.inside.frames c.args.room c.unwrap-slot.result / 4096) (record { pages = pages_of c.self.inside.pages; free = c.args.frames.now })).free
+    (vec_capacity c.self.inside.pages.rest) (omega arith) refl refl).block

@@ -10,4 +10,4 @@ pub returns : goal.returns
 returns c = λ j l.
     let some = c.requires.count in
     two_words c.args.words.now c.args.first j (get_or c.args.words.now (c.args.first / 64) 0) (get_or c.args.words.now (c.args.first / 64 + 1) 0) refl refl
-      (let fit = c.type_inv.words (c.args.first / 64) in omega arith) (omega arith)
+    (let fit = c.type_inv.words (c.args.first / 64) in omega arith) (omega arith)

@@ -8,5 +8,5 @@ use Rattle.osc_heap.proofs.slot_bits.window.Goals as goal
 pub returns : goal.returns
 returns c = λ j l.
     let bits : c.if-wanted.bits ≡ cond c.args.wanted c.bits_from-bits.result (bit_not w64 c.bits_from-bits.result) =
-        elim c.if-wanted.branch [ then-wanted w ↦ rw w.if-wanted.true w.bits-is | else-wanted w ↦ rw w.if-wanted.false w.bits-is ] in
+    elim c.if-wanted.branch [ then-wanted w ↦ rw w.if-wanted.true w.bits-is | else-wanted w ↦ rw w.if-wanted.false w.bits-is ] in
     windowed c.args.words.now c.args.wanted c.args.first c.args.count c.bits_from-bits.result c.if-wanted.bits j c.bits_from-bits.type_inv bits c.requires.count.1 l c.bits_from-bits.ensures

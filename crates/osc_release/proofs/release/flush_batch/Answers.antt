@@ -13,4 +13,4 @@ returns-then-is_full-clause-next c free =
     let full : (length c.args.waiting.now == c.args.batch) ≡ true = grind (arith, nat_tests, count, is) in
     rw full
     (subst (λ (g : List ℕ). changed c.flush.new.tables free c.flush.new.jobs.pushed ≡ flushed c.args.harts (leaves_over c.args.tables.now c.args.marks.now.objects (facts c.args.marks.now.objects g)) (changed c.args.tables.now free c.args.jobs.now.pushed))
-        c.objects.ensures (c.flush.ensures.next free))
+    c.objects.ensures (c.flush.ensures.next free))

@@ -21,7 +21,7 @@ unmap_shadows-requires c =
     let room = c.requires.spare in
     record {
       can = can_unmap (space_of c.args.tables.now c.args.marks.now c.requires.agree.heap c.args.waiting.now) a.regions c.requires.agree.free c.args.jobs.now c.args.seen.number c.args.seen.fact
-          a.agree c.requires.marked c.know_tables.ensures.range c.requires.within c.requires.is c.requires.live (omega arith)
+          a.agree c.requires.marked c.know_tables.ensures.range c.requires.within c.requires.is c.requires.live (omega arith);
     }
 
 pub flush_batch-flush-requires-clause-shadows : goal.flush_batch-flush-requires-clause-shadows
@@ -29,9 +29,9 @@ flush_batch-flush-requires-clause-shadows c =
     let a = c.requires.agree.agree in
     let objects : c.kill.new.self.objects ≡ kill c.args.seen.number c.args.call c.args.marks.now.objects = (let e = c.kill.ensures.grants in cc) in
     let shows : ShowsLive c.unmap_shadows.new.tables (kill c.args.seen.number c.args.call c.args.marks.now.objects) =
-        shows_live (space_of c.args.tables.now c.args.marks.now c.requires.agree.heap c.args.waiting.now) a.regions c.requires.agree.free c.unmap_shadows.new.tables c.args.seen.number c.args.seen.fact
-        (kill c.args.seen.number c.args.call c.args.marks.now.objects) a.agree c.requires.is c.unmap_shadows.ensures.pages
-        (λ page dead out. dead_page c.args.marks.now.objects c.args.seen.number c.args.call page c.args.seen.fact c.requires.is dead out) in
+    shows_live (space_of c.args.tables.now c.args.marks.now c.requires.agree.heap c.args.waiting.now) a.regions c.requires.agree.free c.unmap_shadows.new.tables c.args.seen.number c.args.seen.fact
+    (kill c.args.seen.number c.args.call c.args.marks.now.objects) a.agree c.requires.is c.unmap_shadows.ensures.pages
+    (λ page dead out. dead_page c.args.marks.now.objects c.args.seen.number c.args.call page c.args.seen.fact c.requires.is dead out) in
     subst (λ (os : List ObjectFact). ShowsLive c.unmap_shadows.new.tables os) (sym objects) shows
 
 pub flush_batch-flush-requires-clause-known : goal.flush_batch-flush-requires-clause-known
@@ -60,7 +60,7 @@ pub returns-clause-plan : goal.returns-clause-plan
 returns-clause-plan c heap free =
     let t = terms c.args.harts c.args.call c.args.batch in
     flush_made (terms c.args.harts c.args.call c.args.batch) c.args.seen.number c.unmap_shadows.new.tables c.flush_batch-flush.new.tables c.kill.new.self heap c.push.new.self free c.unmap_shadows.new.jobs.pushed c.flush_batch-flush.new.jobs.pushed
-        c.flush_batch-flush.result c.flush_batch-flush.ensures.full (c.flush_batch-flush.ensures.next free)
+    c.flush_batch-flush.result c.flush_batch-flush.ensures.full (c.flush_batch-flush.ensures.next free)
     ∙ ap (λ d. freed c.args.seen.number (terms c.args.harts c.args.call c.args.batch) d)
-        (let_waits (terms c.args.harts c.args.call c.args.batch) (seen_of c.args.seen) c.args.tables.now c.unmap_shadows.new.tables c.args.marks.now c.kill.new.self heap c.args.waiting.now c.push.new.self free c.args.jobs.now.pushed c.unmap_shadows.new.jobs.pushed
-            c.kill.ensures.grants c.push.ensures (c.unmap_shadows.ensures.next free))
+    (let_waits (terms c.args.harts c.args.call c.args.batch) (seen_of c.args.seen) c.args.tables.now c.unmap_shadows.new.tables c.args.marks.now c.kill.new.self heap c.args.waiting.now c.push.new.self free c.args.jobs.now.pushed c.unmap_shadows.new.jobs.pushed
+    c.kill.ensures.grants c.push.ensures (c.unmap_shadows.ensures.next free))

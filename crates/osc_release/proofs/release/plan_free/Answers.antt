@@ -14,7 +14,7 @@ pub returns-in-Some-clause-plan : goal.returns-in-Some-clause-plan
 returns-in-Some-clause-plan c heap free =
     let s = seen_live c.args.tables.now c.args.marks.now.objects c.args.pointer c.object_with.result c.unwrap-seen.result c.requires.words c.object_with.ensures.object c.unwrap-seen.ensures in
     free_is (terms c.args.harts c.args.call c.args.batch) c.args.pointer (found_of c.args.found) (draft_of c.args.tables.now c.args.marks.now heap c.args.waiting.now free c.args.jobs.now.pushed) (seen_of c.unwrap-seen.result)
-        (Some (damage_answer c.in-Some.damage)) s.is s.state c.in-Some.ensures
+    (Some (damage_answer c.in-Some.damage)) s.is s.state c.in-Some.ensures
 
 pub free_object-requires-clause-live : goal.free_object-requires-clause-live
 free_object-requires-clause-live c =
@@ -25,4 +25,4 @@ returns-clause-plan c heap free =
     let s = seen_live c.args.tables.now c.args.marks.now.objects c.args.pointer c.object_with.result c.unwrap-seen.result c.requires.words c.object_with.ensures.object c.unwrap-seen.ensures in
     c.free_object.ensures.plan heap free
     ∙ free_is (terms c.args.harts c.args.call c.args.batch) c.args.pointer (found_of c.args.found) (draft_of c.args.tables.now c.args.marks.now heap c.args.waiting.now free c.args.jobs.now.pushed) (seen_of c.unwrap-seen.result)
-        None s.is s.state c.in_default.ensures
+    None s.is s.state c.in_default.ensures

@@ -17,4 +17,4 @@ pub loop-object-preserved : goal.loop-object-preserved
 loop-object-preserved c =
     rw c.lesser-next.ensures
     (finds_more c.args.marks.now.objects c.args.gone.now c.loop-object.object-index (c.loop-object.object-index + 1) c.args.from c.fact-fact.result c.loop-object.next c.leaf_of.result
-        (omega arith) (omega arith) c.fact-fact.ensures.fact c.loop-object.invariant c.leaf_of.ensures)
+    (omega arith) (omega arith) c.fact-fact.ensures.fact c.loop-object.invariant c.leaf_of.ensures)

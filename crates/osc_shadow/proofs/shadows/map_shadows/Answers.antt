@@ -29,9 +29,9 @@ map-requires-clause-spare c = (maps_first _ _ _ _ _ c.loop-k.invariant.can (omeg
 pub loop-k-preserved : goal.loop-k-preserved
 loop-k-preserved c =
     let rest = maps_one _ _ _ _ _ _ _ _ (c.args.first + c.loop-k.k) (c.args.block.start / 4096 + c.loop-k.k) (c.shadow_pages-count.result - c.loop-k.k)
-        (c.args.first + (c.loop-k.k + 1)) (c.args.block.start / 4096 + (c.loop-k.k + 1)) (c.shadow_pages-count.result - (c.loop-k.k + 1)) c.unwrap_or.result
-        c.loop-k.invariant.can c.loop-k.invariant.next (omega arith) (omega arith) (omega arith) frame
-        c.map.ensures.next c.map.ensures.taken c.map.ensures.room in
+    (c.args.first + (c.loop-k.k + 1)) (c.args.block.start / 4096 + (c.loop-k.k + 1)) (c.shadow_pages-count.result - (c.loop-k.k + 1)) c.unwrap_or.result
+    c.loop-k.invariant.can c.loop-k.invariant.next (omega arith) (omega arith) (omega arith) frame
+    c.map.ensures.next c.map.ensures.taken c.map.ensures.room in
     record { can = rest.can; next = rest.next; room = c.map.ensures.room ∙ c.loop-k.invariant.room }
   where
     frame : c.unwrap_or.result ≡ unwrap_or (frame_of c.args.heap.now.pages (c.args.block.start / 4096 + c.loop-k.k)) 0

@@ -8,4 +8,4 @@ pub returns : goal.returns
 returns c =
     let zeros : c.fill.new.self.items ≡ replicate (length c.self.inside.held.items) 0 = search rules in
     all_zero c.fill.new.self.items (length c.self.inside.held.items) c.self.inside.slots zeros
-      ∙ ap (λ (n : ℕ). replicate n false) (sym (length-numbers c.self.inside.held.items c.self.inside.slots) ∙ ap (λ (row : List Bool). length row) c.self.view_is)
+    ∙ ap (λ (n : ℕ). replicate n false) (sym (length-numbers c.self.inside.held.items c.self.inside.slots) ∙ ap (λ (row : List Bool). length row) c.self.view_is)

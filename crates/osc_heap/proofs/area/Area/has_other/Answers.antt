@@ -40,7 +40,7 @@ returns-then-is_some c =
     let some : is_some c.least_as.result ≡ true = search rules in
     let here = ap is_some (sym found) ∙ some in
     sym (others_held c.self.inside.held.items c.self.inside.slots (c.args.page * c.args.slots) c.args.slots c.args.slot c.args.self.now c.self.view_is fits.0 (omega (arith, slot.1, long)) slot.0 slot.1
-        ∙ ap (λ b. b || is_some (least (has_as c.self.inside.held.items true) (c.args.slot + 1) (c.args.page * c.args.slots + c.args.slots - (c.args.slot + 1)))) here)
+    ∙ ap (λ b. b || is_some (least (has_as c.self.inside.held.items true) (c.args.slot + 1) (c.args.page * c.args.slots + c.args.slots - (c.args.slot + 1)))) here)
 
 pub overflow_add-slot : goal.overflow_add-slot
 overflow_add-slot c =
@@ -81,4 +81,4 @@ returns c =
     let some : c.is_some-2.result ≡ is_some c.least_as-2.result = search rules in
     some ∙ ap is_some after
     ∙ sym (others_held c.self.inside.held.items c.self.inside.slots (c.args.page * c.args.slots) c.args.slots c.args.slot c.args.self.now c.self.view_is fits.0 (omega (arith, slot.1, long)) slot.0 slot.1
-        ∙ ap (λ b. b || is_some (least (has_as c.self.inside.held.items true) (c.args.slot + 1) (c.args.page * c.args.slots + c.args.slots - (c.args.slot + 1)))) here)
+    ∙ ap (λ b. b || is_some (least (has_as c.self.inside.held.items true) (c.args.slot + 1) (c.args.page * c.args.slots + c.args.slots - (c.args.slot + 1)))) here)

@@ -11,4 +11,4 @@ returns c =
     let found : c.least_as.result ≡ least (has_as c.self.inside.held.items false) 0 c.self.inside.slots = rw c.deref.ensures.value at c.least_as.ensures in
     let all : c.self.inside.slots ≡ length c.args.self.now = sym (length-numbers c.self.inside.held.items c.self.inside.slots) ∙ ap (λ (row : List Bool). length row) c.self.view_is in
     found ∙ sym (free_in_area c.self.inside.held.items c.self.inside.slots 0 c.self.inside.slots c.args.self.now c.self.view_is (omega arith))
-      ∙ ap (λ (n : ℕ). least (λ slot. not (bit_at c.args.self.now slot)) 0 n) all
+    ∙ ap (λ (n : ℕ). least (λ slot. not (bit_at c.args.self.now slot)) 0 n) all
