@@ -148,7 +148,7 @@ free_same : (n : ℕ) (m : Mapping) (o : Option ℕ) (c : Changed) → (leaf_put
 free_same n m None c = refl
 free_same n m (Some t) c = refl
 
-low_page : (n : ℕ) → is_image_or_stack n ≡ true → n < 0x4000000
+pub low_page : (n : ℕ) → is_image_or_stack n ≡ true → n < 0x4000000
 low_page n e = grind (arith, nat_tests, e)
 
 not_shared : (n : ℕ) → is_image_or_stack n ≡ true → is_shared n ≡ false

@@ -24,3 +24,7 @@ pub mod Laying
 pub mod Starting
 pub mod Shadows
 pub mod Manned
+pub mod Different
+pub mod Lacking
+pub mod Images
+pub mod ImageStart

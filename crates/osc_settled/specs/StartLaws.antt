@@ -1,5 +1,5 @@
--- The law of the start: a kernel whose pages were all laid fits, with the words of its image.
-use Rattle.std.specs.Prelude.{ℕ, ◌≡◌, ◌<◌, true, None, List, [], ◌∷◌}
+-- The laws of the start: the kernel with which the machine opens fits, with the words of its image.
+use Rattle.std.specs.Prelude.{ℕ, ◌≡◌, ◌<◌, ◌≤◌, true, None, Ok, List, [], ◌∷◌}
 use Rattle.osc_word.specs.declared.settings.Config.{Config}
 use Rattle.osc_word.specs.Limits.{first_fault}
 use Rattle.osc_word.specs.AddressMap.{is_image_or_stack}
@@ -8,6 +8,8 @@ use Rattle.osc_paging.specs.KeptTables.{mapping_at, need}
 use Rattle.osc_paging.specs.TableChanges.{Changed, link_all}
 use Rattle.osc_paging.specs.Agree.{ReadsAsLeaf}
 use Rattle.osc_image.specs.Image.{Image}
+use Rattle.osc_image.specs.Frames.{needed_frames}
+use Rattle.osc_image.specs.Form.{image_of}
 use Rattle.osc_space.specs.LeafFlags.{leaf_of_page}
 use Rattle.osc_calls.specs.Open.{OpenPage, image_pages, all_pages, lay, rooted, open_kernel, open_words}
 use Rattle.osc_settled.specs.KernelFits.{KernelFits}
@@ -29,4 +31,12 @@ abbrev pub StartsFit : Type 0
 StartsFit =
     (image : Image) (config : Config)
     → first_fault config ≡ None → AllCanLay (all_pages (image_pages image)) (rooted config)
+    → KernelFits (open_words image (open_kernel image config)) (open_kernel image config)
+
+-- the machine that opens with the image of a file fits, where the image needs no more frames than the
+-- machine has
+abbrev pub ImagesStart : Type 0
+ImagesStart =
+    (file : List ℕ) (image : Image) (config : Config)
+    → first_fault config ≡ None → image_of file ≡ Ok image → needed_frames config.levels image ≤ config.frames
     → KernelFits (open_words image (open_kernel image config)) (open_kernel image config)

@@ -2,7 +2,7 @@
 //! proved of the definitions.
 
 ghost use Rattle.osc_settled.specs.KeepLaws.{JobsKeep, OutcomesKeep, PlansKeep, BeginsKeep, FinishKeeps};
-ghost use Rattle.osc_settled.specs.StartLaws.{StartsFit};
+ghost use Rattle.osc_settled.specs.StartLaws.{StartsFit, ImagesStart};
 ghost use Rattle.osc_settled.specs.FollowLaws.{WalksFollow, PartsHold, ShadowsFollow, ProcessesApart, FramesAddUp, RefusedKeep, JobsHaveRoom, MallocsTake, SharesTake, FinishGives, EndsGive};
 
 /// A job that is done keeps what holds of the kernel, with the words that it makes.
@@ -81,4 +81,10 @@ pub fn finish_gives()
 /// Where each page of an image can be laid, the machine that opens with it fits: the start.
 pub fn starts_fit()
     ensures { StartsFit }
+{}
+
+/// The machine that opens with the image of a file fits, for every file that is taken and needs no more
+/// frames than the machine has.
+pub fn images_start()
+    ensures { ImagesStart }
 {}
