@@ -1,0 +1,5 @@
+pub mod Different
+pub mod First
+pub mod Lacking
+pub mod Laid
+pub mod Counted
