@@ -102,6 +102,10 @@ counting_same size done rest p count next some l c =
       few = omega (arith, long, few);
     }
 
+pub length-pages : (pages : List (ℕ × PteBits)) → length (pages_of pages) ≡ length pages
+length-pages [] = refl
+length-pages (p ∷ pages) = ap suc (length-pages pages)
+
 -- ---- the stack's tables are none of an image's
 apart : (size table low : ℕ) (ps : List OpenPage) → ((page : ℕ) → page < 1048576 → page / size < table) → AreImagePages low ps
     → list_any (λ y. y == table) (map (λ (page : ℕ). page / size) (map number_of_page ps)) ≡ false
@@ -136,7 +140,7 @@ upper : (low : ℕ) (ps : List OpenPage) → AreImagePages low ps → tables_bel
 unfolding tables_below
 upper low ps are = rw (top_tables low ps [] are, lower low ps are) (omega arith)
 
-length-numbers : (ps : List OpenPage) → length (map number_of_page ps) ≡ length ps
+pub length-numbers : (ps : List OpenPage) → length (map number_of_page ps) ≡ length ps
 length-numbers [] = refl
 length-numbers (p ∷ ps) = ap suc (length-numbers ps)
 

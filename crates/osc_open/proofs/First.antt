@@ -7,10 +7,7 @@ use Rattle.std.proofs.lemmas.List.Sums.{sum_by-cons}
 use Rattle.osc_sv39.specs.Walk.{piece}
 use Rattle.osc_frames.specs.Free.{free_count}
 use Rattle.osc_paging.specs.TableChanges.{Changed, linked, link, link_all}
-
-abbrev pub first_taken : ℕ → ℕ → List Bool
-first_taken zero left = replicate left true
-first_taken (suc taken) left = false ∷ first_taken taken left
+use Rattle.osc_open.specs.Row.{first_taken}
 
 pub least_is : (taken left : ℕ) → position (λ b. b) (first_taken taken (suc left)) ≡ Some taken
 least_is zero left = grind (arith, nat_tests)

@@ -7,15 +7,8 @@ use Rattle.osc_image.specs.Frames.{different, tables_below}
 use Rattle.osc_paging.specs.declared.TableFrame.{TableFrame}
 use Rattle.osc_paging.specs.KeptTables.{frame_of, lack, need_below}
 use Rattle.osc_paging.proofs.Needed.{Grown, need_one}
+use Rattle.osc_open.specs.Row.{is_absent, lacking}
 use Rattle.osc_open.proofs.Different.{different-cons, without}
-
-abbrev pub is_absent : List TableFrame → ℕ → ℕ → Bool
-is_absent ts level number = is_none (frame_of ts level number)
-
--- those below a level
-abbrev pub lacking : List TableFrame → ℕ → List ℕ → ℕ
-lacking ts zero numbers = 0
-lacking ts (suc l) numbers = different (filter (is_absent ts l) (map (piece (suc l)) numbers)) + lacking ts l numbers
 
 -- where none is there yet, all are missing
 pub all_lacking : (ts : List TableFrame) (level : ℕ) (numbers : List ℕ) → ((l n : ℕ) → l < level → frame_of ts l n ≡ None)

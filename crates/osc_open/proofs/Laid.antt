@@ -22,28 +22,9 @@ use Rattle.osc_share.proofs.FreeNumbers.{stays_taken, set_length}
 use Rattle.osc_share.proofs.Low.{IsLow, low_page, reach}
 use Rattle.osc_share.proofs.Lengths.{Pushes, map_pushes, map_pages_more}
 use Rattle.osc_open.specs.Laying.{number_of_page}
-use Rattle.osc_open.proofs.First.{first_taken, least_is, next_taken, count_is, TakesFirst, link_all_first}
-use Rattle.osc_open.proofs.Lacking.{lacking, lacking_less, need_least}
-
--- the pages ascend from a number on, below the pages that no process has, and what each permits makes a leaf
-abbrev pub AreLow : ℕ → List OpenPage → Type 0
-AreLow low [] = Unit {0}
-AreLow low (p ∷ ps) =
-    (low ≤ p.page) × (p.page < 67108864) × IsTrue (is_leaf (leaf_of_page p.bits)) × AreLow (suc p.page) ps
-
--- these pages can be laid one after another in a machine of so many frames
-pub record CanLay (count : ℕ) (ps : List OpenPage) (t : KeptTables) (free : List Bool) (jobs : JobList) : Type 0 where
-  pub low : ℕ
-  pub pages : AreLow low ps
-  pub unmapped : (q : ℕ) → low ≤ q → mapping_at t.pages q ≡ None
-  pub opened : IsOpen t
-  pub range : IsTop t.top
-  pub left : length t.pages + length ps ≤ t.room
-  pub taken : HasTaken t free
-  pub few : free_count free ≤ count
-  pub first : free ≡ first_taken (count - free_count free) (free_count free)
-  pub enough : length ps + lacking t.tables t.top (map number_of_page ps) ≤ free_count free
-  pub spare : 7 * length ps ≤ spare jobs
+use Rattle.osc_open.specs.Row.{AreLow, CanLay, first_taken, lacking}
+use Rattle.osc_open.proofs.First.{least_is, next_taken, count_is, TakesFirst, link_all_first}
+use Rattle.osc_open.proofs.Lacking.{lacking_less, need_least}
 
 -- the mapping of the first one
 abbrev pub own_mapping : ℕ → OpenPage → KeptTables → List Bool → Mapping

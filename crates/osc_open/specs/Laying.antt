@@ -1,11 +1,8 @@
 -- The pages of the start as the calls take them, and the frames that they need. The stack's pages stand
 -- after every page of an image. This project's own.
-use Rattle.std.specs.Prelude.{ℕ, suc, ◌+◌, ◌≡◌, ◌<◌, ◌≤◌, Bool, true, false, List, [], ◌∷◌, ◌++◌, length, map, replicate, slice_set, IsTrue}
-use Rattle.osc_word.specs.declared.job_list.Job.{Job}
+use Rattle.std.specs.Prelude.{ℕ, suc, ◌+◌, ◌<◌, ◌≤◌, List, [], ◌∷◌, ◌++◌, length, map, IsTrue}
 use Rattle.osc_sv39.specs.declared.flags.PteBits.{PteBits}
 use Rattle.osc_sv39.specs.ReadBack.{is_leaf}
-use Rattle.osc_paging.specs.KeptTables.{KeptTables}
-use Rattle.osc_paging.specs.TableChanges.{Changed, opened}
 use Rattle.osc_image.specs.Frames.{stack_pages, table_count}
 use Rattle.osc_space.specs.LeafFlags.{leaf_of_page}
 use Rattle.osc_calls.specs.Open.{OpenPage, open_page}
@@ -27,11 +24,3 @@ abbrev pub AreImagePages : ℕ → List OpenPage → Type 0
 AreImagePages low [] = Unit {0}
 AreImagePages low (p ∷ ps) =
     (low ≤ p.page) × (p.page < 0x100000) × IsTrue (is_leaf (leaf_of_page p.bits)) × AreImagePages (suc p.page) ps
-
--- the topmost table alone, in the least frame of a machine whose frames were all free
-abbrev pub rooted_in : KeptTables → List Job → Changed
-rooted_in t jobs = record {
-  tables = opened 0 t;
-  free = slice_set (replicate t.count true) 0 false;
-  jobs = jobs;
-}

@@ -4,3 +4,4 @@ pub use Rattle.osc_paging.specs.TableChanges
 pub use Rattle.osc_word.specs.JobList
 pub use Rattle.osc_frames.specs.Free
 pub mod Laying
+pub mod Row

@@ -7,15 +7,13 @@ ghost use Rattle.osc_open.specs.Laying.{AreImagePages, frames_for, number_of_pag
 
 use osc_sv39::PteBits;
 use osc_word::Page;
+use osc_word::address_map::STACK_PAGES;
 
 /// The pages that a leaf table has entries for.
 const LEAF_TABLE: u64 = 512;
 
 /// The pages below one entry of a table two levels above the pages.
 const DIRECTORY: u64 = 512 * 512;
-
-/// The pages of the stack.
-pub const STACK_PAGES: u64 = 16;
 
 /// How many tables the pages have that are for so many pages each.
 fn tables_over(pages: &[(Page, PteBits)], size: u64) -> u64
@@ -37,16 +35,16 @@ fn tables_over(pages: &[(Page, PteBits)], size: u64) -> u64
     count
 }
 
-/// How many frames a machine with 3 or 4 levels of page tables needs for the start: those of the pages, of
-/// the stack's pages, and of the page tables of both.
+/// How many frames a machine with 3 or 4 levels of page tables needs for the start: those of the
+/// pages, of the stack's pages, and of the page tables of both.
 pub fn needed_frames(pages: &[(Page, PteBits)], levels: u8) -> u64
     requires levels { IsLevels levels }
     requires pages { AreImagePages 16 (pages_of pages.now) }
     requires few { length pages.now ≤ 1048576 }
     ensures { result ≡ frames_for levels (pages_of pages.now) }
 {
-    // The topmost table and the two tables of the stack, which has none of those in common with an image.
-    // The fourth level has one table over both.
+    // The topmost table and the two tables of the stack, which has none of those in common with an
+    // image. The fourth level has one table over both.
     let others = u64::from(levels);
     let tables = tables_over(pages, DIRECTORY) + tables_over(pages, LEAF_TABLE);
     pages.len() as u64 + STACK_PAGES + others + tables
