@@ -25,7 +25,7 @@ fn leaf_bits(bits: PteBits) -> PteBits
 
 /// Lays one page in a machine of so many frames, of which the first ones are taken: its tables get the
 /// next frames, and the page the one after those.
-pub fn lay(
+fn lay(
     page: Page,
     bits: PteBits,
     count: u32,
