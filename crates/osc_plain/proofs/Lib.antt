@@ -1,0 +1,4 @@
+pub mod Lying
+pub mod Maps
+pub mod Unmaps
+pub mod Plans

@@ -3,16 +3,21 @@
 //! and is the box of every hart cleared.
 #![tactic(auto)]
 
-ghost use Rattle.std.specs.Prelude.{ℕ, ◌≡◌, ◌≤◌, Bool, List, length};
-ghost use Rattle.osc_space.specs.Agree.{HasSpare};
-ghost use Rattle.osc_plain.specs.Plan.{IsFreed, IsMalloced, IsRealloced, PartsAgree, PartsAgreeOnFrames, draft};
+mod blocks;
 
-use osc_class::{Room, block_bytes, room_of, shadow_pages};
+ghost use Rattle.std.specs.Prelude.{ℕ, ◌≡◌, ◌≤◌, Bool, List, length};
+ghost use Rattle.osc_slot.specs.Heap.{block_of_user};
+ghost use Rattle.osc_space.specs.Agree.{HasSpare};
+ghost use Rattle.osc_space.specs.PlainHeap.{plain_malloc_plan, plain_free_plan, plain_realloc_plan};
+ghost use Rattle.osc_plain.specs.Plan.{PartsAgree, PartsAgreeOnFrames, draft, malloced_now, freed_now, realloced_now};
+
+use crate::blocks::{give_block, is_room, kept_bytes, lacks_frames, let_go, move_block};
+use osc_class::room_of;
 use osc_frames::Frames;
-use osc_heap::{Block, CanonHeap};
-use osc_shadow::{HEADER, copy_bytes, fill_block, map_shadows, trim_block, unmap_shadows};
+use osc_heap::CanonHeap;
+use osc_shadow::{HEADER, trim_block};
 use osc_tables::Tables;
-use osc_word::{Job, Jobs};
+use osc_word::Jobs;
 
 /// The answer to a malloc.
 #[derive(Clone, Copy, Debug, PartialEq, Eq)]
@@ -40,68 +45,10 @@ pub enum PlainRealloced {
     NotAnObject,
 }
 
-/// Places the next block of a room, where the frames that it newly takes and the tables that are
-/// missing over these pages are no more than the free frames. Else nothing is changed.
-fn place_block(tables: &Tables, heap: &mut CanonHeap, frames: &mut Frames, room: Room) -> Option<Block> {
-    let pages = heap.need(room);
-    let free = u64::from(frames.free_count());
-    if pages > free {
-        return None;
-    }
-    let block = heap.place(room, frames);
-    if tables.need(block.start / 4096, pages) > free - pages {
-        heap.release(block, frames);
-        return None;
-    }
-    Some(block)
-}
-
-/// A new block has its header and else zeros, and the pages that it newly took are mapped.
-fn begin_block(
-    tables: &mut Tables,
-    heap: &CanonHeap,
-    frames: &mut Frames,
-    jobs: &mut Jobs,
-    block: Block,
-    size: u64,
-    pages: u64,
-) {
-    fill_block(heap, block, size, jobs);
-    if pages > 0 {
-        map_shadows(tables, heap, block.start / 4096, block, frames, jobs);
-    }
-}
-
-/// Whether no other block is on the pages of a held one.
-fn is_alone(heap: &CanonHeap, block: Block) -> bool {
-    let Room::Small(_) = block.room else {
-        return true;
-    };
-    let size = block_bytes(block.room) as u64;
-    let page = block.start / 4096 * 4096;
-    for slot in 0..4096 / size {
-        let start = page + slot * size;
-        if start != block.start && heap.block_at(start + HEADER).is_some() {
-            return false;
-        }
-    }
-    true
-}
-
-/// The pages of a block that hold no other are unmapped, and every box is cleared where there are any.
-fn let_go(tables: &mut Tables, heap: &CanonHeap, jobs: &mut Jobs, block: Block, harts: u32) {
-    if is_alone(heap, block) {
-        let pages = shadow_pages(block.room) as u32;
-        unmap_shadows(tables, block.start / 4096, pages, jobs);
-        for hart in 0..harts {
-            jobs.push(Job::ClearBox { hart });
-        }
-    }
-}
-
 /// Plans a malloc of `n` bytes: the next block of its room, at its canonical address. It is NoFrames
 /// exactly where the frames of its pages and of the tables missing over them are more than the free
 /// ones, and changes nothing then.
+#[tactic(auto, unfolding(osc_space::specs::PlainHeap::plain_malloc_plan))]
 pub fn plain_malloc(
     tables: &mut Tables,
     heap: &mut CanonHeap,
@@ -109,18 +56,17 @@ pub fn plain_malloc(
     jobs: &mut Jobs,
     n: u64,
 ) -> PlainMalloced
-    requires agrees { PartsAgree tables.old heap.old frames.old }
+    requires agree { PartsAgree tables.old heap.old frames.old }
     requires spare { HasSpare jobs.old (length frames.old) }
-    ensures plan { (shadows : ℕ) → IsMalloced n (draft shadows tables.old heap.old frames.old jobs.old.pushed) result
-        (draft shadows tables.new heap.new frames.new jobs.new.pushed) }
+    ensures plan { (shadows : ℕ) → malloced_now result (draft shadows tables.new heap.new frames.new jobs.new.pushed)
+        ≡ plain_malloc_plan n (draft shadows tables.old heap.old frames.old jobs.old.pushed) }
     ensures room { jobs.new.room ≡ jobs.old.room }
 {
     let room = room_of(n);
-    let pages = heap.need(room);
-    let Some(block) = place_block(tables, heap, frames, room) else {
+    if lacks_frames(tables, heap, frames, room) {
         return PlainMalloced::NoFrames;
-    };
-    begin_block(tables, heap, frames, jobs, block, n, pages);
+    }
+    let block = give_block(tables, heap, frames, jobs, room, n);
     PlainMalloced::Given {
         pointer: block.start + HEADER,
     }
@@ -129,6 +75,7 @@ pub fn plain_malloc(
 /// Plans a free: the pages of the block that hold no other are unmapped. The block is given back when
 /// the call returns. It is NotAnObject exactly where no held block has this user address, and changes
 /// nothing then.
+#[tactic(auto, unfolding(osc_space::specs::PlainHeap::plain_free_plan))]
 pub fn plain_free(
     tables: &mut Tables,
     heap: &mut CanonHeap,
@@ -136,11 +83,12 @@ pub fn plain_free(
     pointer: u64,
     harts: u32,
 ) -> PlainFreed
-    requires agrees { PartsAgreeOnFrames tables.old heap.old }
+    requires agree { PartsAgreeOnFrames tables.old heap.old }
     requires harts { harts ≤ 8 }
     requires spare { HasSpare jobs.old heap.old.frames }
-    ensures plan { (shadows : ℕ) (free : List Bool) → IsFreed harts pointer (draft shadows tables.old heap.old free jobs.old.pushed) result
-        (draft shadows tables.new heap.new free jobs.new.pushed) }
+    ensures plan { (shadows : ℕ) (free : List Bool)
+        → freed_now result (block_of_user heap.old.held pointer) (draft shadows tables.new heap.new free jobs.new.pushed)
+        ≡ plain_free_plan harts pointer (draft shadows tables.old heap.old free jobs.old.pushed) }
     ensures room { jobs.new.room ≡ jobs.old.room }
 {
     let Some(block) = heap.block_at(pointer) else {
@@ -153,6 +101,7 @@ pub fn plain_free(
 /// Plans a realloc to `n` bytes; `size` is the second word of the block's header, as it was found. The
 /// block stays exactly where the room stays; else it is a malloc, a copy of the common bytes, and a
 /// free. NotAnObject is tried first; a refusal changes nothing.
+#[tactic(auto, unfolding(osc_space::specs::PlainHeap::plain_realloc_plan))]
 pub fn plain_realloc(
     tables: &mut Tables,
     heap: &mut CanonHeap,
@@ -163,29 +112,27 @@ pub fn plain_realloc(
     size: u64,
     harts: u32,
 ) -> PlainRealloced
-    requires agrees { PartsAgree tables.old heap.old frames.old }
+    requires agree { PartsAgree tables.old heap.old frames.old }
     requires harts { harts ≤ 8 }
     requires spare { HasSpare jobs.old (length frames.old) }
-    ensures plan { (shadows : ℕ) → IsRealloced harts pointer n size (draft shadows tables.old heap.old frames.old jobs.old.pushed) result
-        (draft shadows tables.new heap.new frames.new jobs.new.pushed) }
+    ensures plan { (shadows : ℕ)
+        → realloced_now result n (block_of_user heap.old.held pointer) (draft shadows tables.new heap.new frames.new jobs.new.pushed)
+        ≡ plain_realloc_plan harts pointer n size (draft shadows tables.old heap.old frames.old jobs.old.pushed) }
     ensures room { jobs.new.room ≡ jobs.old.room }
 {
     let Some(old) = heap.block_at(pointer) else {
         return PlainRealloced::NotAnObject;
     };
     let room = room_of(n);
-    let bytes = size.min(block_bytes(old.room) as u64 - HEADER).min(n);
-    if room == old.room {
+    let bytes = kept_bytes(old, size, n);
+    if is_room(room, old.room) {
         trim_block(heap, old, bytes, n, jobs);
         return PlainRealloced::Placed { pointer };
     }
-    let pages = heap.need(room);
-    let Some(block) = place_block(tables, heap, frames, room) else {
+    if lacks_frames(tables, heap, frames, room) {
         return PlainRealloced::NoFrames;
-    };
-    begin_block(tables, heap, frames, jobs, block, n, pages);
-    copy_bytes(heap, old, block, bytes, jobs);
-    let_go(tables, heap, jobs, old, harts);
+    }
+    let block = move_block(tables, heap, frames, jobs, old, room, n, bytes, harts);
     PlainRealloced::Placed {
         pointer: block.start + HEADER,
     }
