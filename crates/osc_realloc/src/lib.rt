@@ -1,0 +1,9 @@
+//! The plan of a realloc: always a fresh object with fresh shadow pages, and the old one is dead. The
+//! block stays exactly where the room of the new size is the old one; else the bytes are copied into
+//! a new block.
+#![tactic(auto)]
+
+mod answer;
+mod bytes;
+
+pub use answer::Realloced;
