@@ -4,6 +4,10 @@
 #![tactic(auto)]
 
 mod answer;
+mod blocks;
 mod bytes;
+mod letting;
+mod realloc;
 
 pub use answer::Realloced;
+pub use realloc::plan_realloc;
