@@ -2,6 +2,7 @@
 use Rattle.std.proofs.Common.{ℕ, ◌+◌, ◌*◌, ◌%◌, ◌≡◌, min, Bool, true, false, cond, List, [], ◌∷◌, ◌++◌, Some, refl, ap, sym, ◌∙◌}
 use Rattle.std.specs.List.{range_with_len}
 use Rattle.osc_word.specs.declared.job_list.Job.{Job}
+use Rattle.osc_word.specs.declared.calls.Answer.{Answer}
 use Rattle.osc_word.specs.declared.calls.Answer.TheVariants as answer
 use Rattle.osc_class.specs.Rooms.{room_of, shadow_pages}
 use Rattle.osc_slot.specs.declared.Block.{Block}
@@ -15,7 +16,7 @@ use Rattle.osc_space.specs.declared.ObjectFact.{ObjectFact}
 use Rattle.osc_space.specs.Objects.{Seen, fact, facts, grant, kill, next_object, next_page}
 use Rattle.osc_space.specs.BlockWords.{block_mappings, copy_jobs, header_jobs, trim_jobs, zero_block}
 use Rattle.osc_space.specs.Header.{block_of}
-use Rattle.osc_space.specs.Space.{Draft, Terms, GivesBack}
+use Rattle.osc_space.specs.Space.{Draft, Terms, Outcome, Closing, GivesBack}
 use Rattle.osc_space.specs.Malloc.{grant_object, map_shadows, next_user}
 use Rattle.osc_space.specs.Free.{kill_object, flush, unmap_all, unmap_object, waiting_blocks}
 use Rattle.osc_space.specs.Realloc.{stays, block_for, place_where, left_block, bytes_jobs, keep_bytes, replace_object, realloc_in, realloc_made}
@@ -102,6 +103,8 @@ draft_is terms s stay n block t0 t2 t3 g0 g2 h0 h1 w f0 f1 f2 j0 j2 j3 j4 bytes 
         by_where false = refl
 
 -- ---- the whole
+abbrev made : Answer → Draft → Closing → Outcome
+made a d c = record { answer = a; draft = d; closing = c }
 
 pub moved_is : (terms : Terms) (s : Seen) (stay : Bool) (n : ℕ) (block : Block) (d after : Draft) (object pointer first : ℕ)
     → stay ≡ stays s.fact n → fact d.space.objects s.number ≡ Some s.fact → block ≡ block_for stay s.fact n d
@@ -109,10 +112,10 @@ pub moved_is : (terms : Terms) (s : Seen) (stay : Bool) (n : ℕ) (block : Block
     → after ≡ map_shadows (next_page d.space.objects) block (keep_bytes stay s.fact block n (replace_object terms s block n (place_where stay n d)))
     → realloced n d (Moved s.number object pointer) after ≡ realloc_made (stays s.fact n) terms s n d
 moved_is terms s stay n block d after object pointer first es is eb eo e1 ep ea =
-    ap (λ x. record { answer = answer.Moved s.number x pointer; draft = after; closing = GivesBack (waiting_blocks d.space ++ block_left (fact d.space.objects s.number) n) }) eo
-    ∙ ap (λ x. record { answer = answer.Moved s.number (next_object d.space.objects) x; draft = after; closing = GivesBack (waiting_blocks d.space ++ block_left (fact d.space.objects s.number) n) }) (ep ∙ ap (λ k. k * 4096 + (block.start + 16) % 4096) e1)
-    ∙ ap (λ x. record { answer = answer.Moved s.number (next_object d.space.objects) (next_user d.space.objects block); draft = x; closing = GivesBack (waiting_blocks d.space ++ block_left (fact d.space.objects s.number) n) }) ea
-    ∙ ap (λ x. record { answer = answer.Moved s.number (next_object d.space.objects) (next_user d.space.objects block); draft = map_shadows (next_page d.space.objects) block (keep_bytes stay s.fact block n (replace_object terms s block n (place_where stay n d))); closing = GivesBack (waiting_blocks d.space ++ block_left x n) }) is
-    ∙ ap (λ b. record { answer = answer.Moved s.number (next_object d.space.objects) (next_user d.space.objects block); draft = map_shadows (next_page d.space.objects) block (keep_bytes stay s.fact block n (replace_object terms s block n (place_where stay n d))); closing = GivesBack (waiting_blocks d.space ++ left_block b s.fact) }) (sym es)
+    ap (λ x. made (answer.Moved s.number x pointer) (after) (GivesBack (waiting_blocks d.space ++ block_left (fact d.space.objects s.number) n))) eo
+    ∙ ap (λ x. made (answer.Moved s.number (next_object d.space.objects) x) (after) (GivesBack (waiting_blocks d.space ++ block_left (fact d.space.objects s.number) n))) (ep ∙ ap (λ k. k * 4096 + (block.start + 16) % 4096) e1)
+    ∙ ap (λ x. made (answer.Moved s.number (next_object d.space.objects) (next_user d.space.objects block)) (x) (GivesBack (waiting_blocks d.space ++ block_left (fact d.space.objects s.number) n))) ea
+    ∙ ap (λ x. made (answer.Moved s.number (next_object d.space.objects) (next_user d.space.objects block)) (map_shadows (next_page d.space.objects) block (keep_bytes stay s.fact block n (replace_object terms s block n (place_where stay n d)))) (GivesBack (waiting_blocks d.space ++ block_left x n))) is
+    ∙ ap (λ b. made (answer.Moved s.number (next_object d.space.objects) (next_user d.space.objects block)) (map_shadows (next_page d.space.objects) block (keep_bytes stay s.fact block n (replace_object terms s block n (place_where stay n d)))) (GivesBack (waiting_blocks d.space ++ left_block b s.fact))) (sym es)
     ∙ ap (λ b. realloc_in stay terms s n b d) eb
     ∙ ap (λ b. realloc_made b terms s n d) es

@@ -1,5 +1,5 @@
 -- How large rooms are, and where held blocks start.
-use Rattle.std.proofs.Common.{ℕ, ◌+◌, ◌-◌, ◌*◌, ◌/◌, ◌^◌, ◌≡◌, ◌<◌, ◌≤◌, min, Bool, true, false, Option, Some, None, List, arith, refl, ap, ◌∙◌, position}
+use Rattle.std.proofs.Common.{ℕ, ◌+◌, ◌-◌, ◌*◌, ◌/◌, ◌≡◌, ◌<◌, ◌≤◌, min, Bool, true, false, Option, Some, None, List, arith, refl, ap, ◌∙◌, position}
 use Rattle.std.specs.Prelude.{nat_le}
 use Rattle.std.proofs.lemmas.Bool.Decides.{nat_tests}
 use Rattle.std.proofs.lemmas.List.Quantifiers.{position-Some}
@@ -10,7 +10,6 @@ use Rattle.osc_slot.specs.declared.Block.{Block}
 use Rattle.osc_slot.specs.Areas.{start_of, IsPlaced}
 use Rattle.osc_slot.specs.Slots.{is_block, is_held}
 use Rattle.osc_slot.specs.Heap.{ArePlaced}
-use Rattle.osc_slot.proofs.Bounds.{bytes_within}
 use Rattle.osc_slot.proofs.HeldBlocks.{found, same_block}
 use Rattle.osc_space.specs.declared.ObjectFact.{ObjectFact}
 use Rattle.osc_space.specs.BlockWords.{whole_end}
@@ -26,10 +25,6 @@ room_holds n = go (class_of (n + 16)) refl
     go : (x : Option ℕ) → class_of (n + 16) ≡ x → n + 16 ≤ block_bytes (class_or_pages x (n + 16))
     go (Some class) e = let p = (position-Some (λ size. nat_le (n + 16) size) sizes class 0 e).1 in grind (arith, nat_tests, p)
     go None e = omega arith
-
-room_bytes : (room : Room) → IsRoom room → 32 ≤ block_bytes room
-room_bytes (Small class) r = grind arith
-room_bytes (Pages pages) r = omega arith
 
 small_size : (class : ℕ) → class < 13 → block_bytes (Small class) ≤ 4096
 small_size class l = grind arith
@@ -51,26 +46,6 @@ few_whole size n r =
     omega arith
 
 -- ---- held blocks
-low_start : (frames : ℕ) (room : Room) (slot : ℕ) → IsRoom room → start_of frames room slot < 2 ^ 64 → start_of frames room slot + 16 < 2 ^ 64
-low_start frames (Pages pages) slot r l = omega arith
-low_start frames (Small class) slot r l =
-    let a = bytes_within (Small class) slot r in
-    let b = room_bytes (Small class) r in
-    omega arith
-
-pub low_block : (frames : ℕ) (held : List Block) (block : Block) → ArePlaced frames held → is_held held block ≡ true → block.start < 2 ^ 64 → block.start + 16 < 2 ^ 64
-low_block frames held block p h l =
-    let f = found frames (λ b. is_block block b) held p h in
-    let same = same_block block f.block f.passes in
-    at f.block same f.placed
-  where
-    at : (b : Block) → block ≡ b → IsPlaced frames b → block.start + 16 < 2 ^ 64
-    at b same q =
-        let start : block.start ≡ start_of frames b.room q.slot = ap (λ (c : Block). c.start) same ∙ q.start in
-        let small : start_of frames b.room q.slot < 2 ^ 64 = omega arith in
-        let low = low_start frames b.room q.slot q.room small in
-        omega arith
-
 pub canon_least : (frames : ℕ) (held : List Block) (o : ObjectFact) → ArePlaced frames held → is_held held (block_of o) ≡ true → 16 ≤ o.canon
 canon_least frames held o p h =
     let f = found frames (λ b. is_block (block_of o) b) held p h in
