@@ -84,7 +84,6 @@ root_alone top l n less = let other : (top == l) ≡ false = grind (arith, nat_t
 root_there : (top : ℕ) → frame_of (table_frame top 0 0 ∷ []) top 0 ≡ Some 0
 root_there top = let same : (top == top) ≡ true = grind (arith, nat_tests) in rw same refl
 
-
 -- what the pages lack is what they need beside the root
 lacks_all : (levels frames : ℕ) (ps : List OpenPage) → frames_for levels ps ≤ frames
     → suc (length (with_stack ps) + lacking (table_frame (levels - 1) 0 0 ∷ []) (levels - 1) (map number_of_page (with_stack ps))) ≤ frames

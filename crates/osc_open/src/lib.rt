@@ -62,7 +62,15 @@ fn lay_out(
     tables.open(root);
     let count = config.frames;
     lay_image(pages, count, tables, frames, jobs);
-    lay_alike(FIRST_STACK_PAGE, STACK_END_PAGE, READ_WRITE, count, tables, frames, jobs);
+    lay_alike(
+        FIRST_STACK_PAGE,
+        STACK_END_PAGE,
+        READ_WRITE,
+        count,
+        tables,
+        frames,
+        jobs,
+    );
 }
 
 /// Opens the tables of process 0 over the pages of its image, by number with R, W and X, and over its
@@ -83,10 +91,10 @@ pub fn open_tables(
     requires spare { 7 * config.now.frames ≤ spare jobs.old }
     ensures answer { let needed = frames_for config.now.levels (pages_of pages.now) in
         MatchResult result
-            (λ _. (needed ≤ config.now.frames)
-                × (changed tables.new frames.new jobs.new.pushed ≡ lay_all (all_pages (pages_of pages.now)) (rooted config.now)))
-            (λ no. (no.needed ≡ needed) × (no.frames ≡ config.now.frames) × (config.now.frames < needed)
-                × (tables.new ≡ tables.old) × (frames.new ≡ frames.old) × (jobs.new ≡ jobs.old)) }
+        (λ _. (needed ≤ config.now.frames)
+        × (changed tables.new frames.new jobs.new.pushed ≡ lay_all (all_pages (pages_of pages.now)) (rooted config.now)))
+        (λ no. (no.needed ≡ needed) × (no.frames ≡ config.now.frames) × (config.now.frames < needed)
+        × (tables.new ≡ tables.old) × (frames.new ≡ frames.old) × (jobs.new ≡ jobs.old)) }
     ensures opened { IfOk result (λ _. IsOpen tables.new × HasTaken tables.new frames.new) }
     ensures room { jobs.new.room ≡ jobs.old.room }
 {

@@ -124,5 +124,5 @@ pub can_map_moved : (t v : KeptTables) (g g2 : Grants) (now : List Bool) (jobs a
 can_map_moved t v g g2 now jobs after middle pages harts n call first size canon count gone can some l first_is grants r spare =
     let objects : g2.objects ≡ kill n call (grant count size canon g.objects) = ap (λ (x : Grants). x.objects) grants in
     can_map_after t r.tables v now jobs (record { pushed = r.jobs; room = 0 }) (record { pushed = middle; room = 0 }) after pages harts first count g2.objects gone can some (r.unmaps now) (r.flushes now)
-        (λ x lo hi. ap (λ os. leaf_dead os x) objects ∙ new_live g.objects n call count size canon x l some (subst (λ k. k / 512 ≤ x) first_is lo) (subst (λ k. x ≤ (k + (count - 1)) / 512) first_is hi))
-        spare
+    (λ x lo hi. ap (λ os. leaf_dead os x) objects ∙ new_live g.objects n call count size canon x l some (subst (λ k. k / 512 ≤ x) first_is lo) (subst (λ k. x ≤ (k + (count - 1)) / 512) first_is hi))
+    spare

@@ -73,7 +73,7 @@ pub leaves_same : (t : KeptTables) (objects : List ObjectFact) (waiting : List �
     ≡ leaves_over t (kill n call (grant pages size canon objects)) (facts (kill n call (grant pages size canon objects)) waiting ++ o ∷ [])
 leaves_same t objects waiting n call pages size canon o e =
     ap (λ gone. leaves_over t (kill n call (grant pages size canon objects)) gone)
-        (facts_push (kill n call (grant pages size canon objects)) waiting n (killed call o) (fact_kill (grant pages size canon objects) n call o (front_fact objects _ n o e)))
+    (facts_push (kill n call (grant pages size canon objects)) waiting n (killed call o) (fact_kill (grant pages size canon objects) n call o (front_fact objects _ n o e)))
     ∙ filter_same _ _ (λ leaf. ap (λ b. leaf_dead (kill n call (grant pages size canon objects)) leaf && b) (over_same (facts (kill n call (grant pages size canon objects)) waiting) call leaf o)) (linked_leaves t)
 
 -- ---- no leaf table over the new object is dead
@@ -89,10 +89,10 @@ new_live objects n call pages size canon leaf l some low high =
     let b : 512 * leaf < next_page objects + pages = omega arith in
     let here : is_in_leaf leaf (granted_at (next_page objects) pages size canon) ≡ true = grind (arith, nat_tests, a, b) in
     let any : list_any (λ (o : ObjectFact). is_live o && is_in_leaf leaf o) (kill n call (grant pages size canon objects)) ≡ true =
-        ap (λ os. list_any (λ (o : ObjectFact). is_live o && is_in_leaf leaf o) os) (kill_front n call objects (granted_at (next_page objects) pages size canon ∷ []) l)
-        ∙ list_any-append (λ (o : ObjectFact). is_live o && is_in_leaf leaf o) (kill n call objects) (granted_at (next_page objects) pages size canon ∷ [])
-        ∙ ap (λ x. list_any (λ (o : ObjectFact). is_live o && is_in_leaf leaf o) (kill n call objects) || (x || false)) here
-        ∙ go (list_any (λ (o : ObjectFact). is_live o && is_in_leaf leaf o) (kill n call objects)) in
+    ap (λ os. list_any (λ (o : ObjectFact). is_live o && is_in_leaf leaf o) os) (kill_front n call objects (granted_at (next_page objects) pages size canon ∷ []) l)
+    ∙ list_any-append (λ (o : ObjectFact). is_live o && is_in_leaf leaf o) (kill n call objects) (granted_at (next_page objects) pages size canon ∷ [])
+    ∙ ap (λ x. list_any (λ (o : ObjectFact). is_live o && is_in_leaf leaf o) (kill n call objects) || (x || false)) here
+    ∙ go (list_any (λ (o : ObjectFact). is_live o && is_in_leaf leaf o) (kill n call objects)) in
     rw any (none (is_leaf_granted (kill n call (grant pages size canon objects)) leaf))
   where
     go : (b : Bool) → (b || true) ≡ true

@@ -79,9 +79,9 @@ draft_is terms s stay n block t0 t2 t3 g0 g2 h0 h1 w f0 f1 f2 j0 j2 j3 j4 bytes 
     let unmapping = unmaps_is terms s block n t0 r.tables g0 g2 h1 w f1 j0 r.jobs (place_where stay n (draft_of t0 g0 h0 w f0 j0)) placing eg (r.unmaps f1) in
     let objects : g2.objects ≡ kill s.number terms.call (grant (shadow_pages block.room) n (block.start + 16) g0.objects) = ap (λ (g : Grants). g.objects) eg in
     let leaves : leaves_over r.tables g2.objects (facts g2.objects (w ++ s.number ∷ [])) ≡ leaves_over r.tables g2.objects (facts g2.objects w ++ s.fact ∷ []) =
-        ap (λ os. leaves_over r.tables os (facts os (w ++ s.number ∷ []))) objects
-        ∙ leaves_same r.tables g0.objects w s.number terms.call (shadow_pages block.room) n (block.start + 16) s.fact is
-        ∙ sym (ap (λ os. leaves_over r.tables os (facts os w ++ s.fact ∷ [])) objects) in
+    ap (λ os. leaves_over r.tables os (facts os (w ++ s.number ∷ []))) objects
+    ∙ leaves_same r.tables g0.objects w s.number terms.call (shadow_pages block.room) n (block.start + 16) s.fact is
+    ∙ sym (ap (λ os. leaves_over r.tables os (facts os w ++ s.fact ∷ [])) objects) in
     let flushing = flush_is terms.harts r.tables t2 g2 h1 w f1 r.jobs j2 (facts g2.objects (w ++ s.number ∷ [])) (facts g2.objects w ++ s.fact ∷ []) (r.flushes f1) leaves in
     let gone : facts g2.objects w ++ s.fact ∷ [] ≡ facts (kill s.number terms.call (grant (shadow_pages block.room) n (block.start + 16) g0.objects)) w ++ s.fact ∷ [] = ap (λ os. facts os w ++ s.fact ∷ []) objects in
     mapping

@@ -54,7 +54,7 @@ pub wants_is : (t : KeptTables) (g : Grants) (h : Heap) (w : List ℕ) (f : List
 wants_is t g h w f j n s in_place room old frames pages r e1 e2 e3 e4 e5 e =
     let here : in_place ≡ stays s.fact n = e3 ∙ ap (λ x. is_room x old) e1 ∙ ap (λ x. is_room (room_of n) x) e2 in
     let asked : frames ≡ frames_for (stays s.fact n) n (draft_of t g h w f j) =
-        e4 ∙ ap (λ x. newly_taken in_place h x) e1 ∙ ap (λ b. newly_taken b h (room_of n)) here ∙ frames_is (stays s.fact n) n t g h w f j in
+    e4 ∙ ap (λ x. newly_taken in_place h x) e1 ∙ ap (λ b. newly_taken b h (room_of n)) here ∙ frames_is (stays s.fact n) n t g h w f j in
     let granted : pages ≡ shadow_pages (room_of n) = e5 ∙ ap shadow_pages e1 in
     e ∙ ap (λ x. memory_refusal t g f x pages) asked ∙ ap (λ x. memory_refusal t g f (frames_for (stays s.fact n) n (draft_of t g h w f j)) x) granted
 

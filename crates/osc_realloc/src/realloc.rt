@@ -49,9 +49,9 @@ fn move_object(
     requires harts { harts ≤ 8 }
     requires spare { HasSpare jobs.old (length frames.old) }
     ensures plan { (batch : ℕ) → realloced n (draft_of tables.old marks.old heap.old waiting.now frames.old jobs.old.pushed)
-            result (draft_of tables.new marks.new heap.new waiting.now frames.new jobs.new.pushed)
+        result (draft_of tables.new marks.new heap.new waiting.now frames.new jobs.new.pushed)
         ≡ realloc_made (stays seen.fact n) (terms harts call batch) (seen_of seen) n
-            (draft_of tables.old marks.old heap.old waiting.now frames.old jobs.old.pushed) }
+        (draft_of tables.old marks.old heap.old waiting.now frames.old jobs.old.pushed) }
     ensures object { (pointer : ℕ) → IsDamagedAt marks.old.objects pointer result }
     ensures room { jobs.new.room ≡ jobs.old.room }
 {
@@ -95,9 +95,9 @@ pub fn plan_realloc(
     requires harts { harts ≤ 8 }
     requires spare { HasSpare jobs.old (length frames.old) }
     ensures plan { (batch : ℕ) → realloced n (draft_of tables.old marks.old heap.old waiting.now frames.old jobs.old.pushed)
-            result (draft_of tables.new marks.new heap.new waiting.now frames.new jobs.new.pushed)
+        result (draft_of tables.new marks.new heap.new waiting.now frames.new jobs.new.pushed)
         ≡ realloc_plan (terms harts call batch) pointer n (found_of found)
-            (draft_of tables.old marks.old heap.old waiting.now frames.old jobs.old.pushed) }
+        (draft_of tables.old marks.old heap.old waiting.now frames.old jobs.old.pushed) }
     ensures object { IsDamagedAt marks.old.objects pointer result }
     ensures room { jobs.new.room ≡ jobs.old.room }
 {

@@ -37,13 +37,13 @@ map-requires-clause-need c =
 pub returns-clause-next : goal.returns-clause-next
 returns-clause-next c =
     sym (lays c.args.count c.free_count.result c.need-missing.result c.leaf_bits.result (open_page c.args.page c.args.bits) c.requires.can.rest
-      c.args.tables.now c.map.new.self c.args.frames.now c.map.new.frames c.take.new.self c.args.jobs.now c.map.new.jobs c.requires.count c.requires.can.can
-      c.free_count.ensures c.need-missing.ensures c.leaf_bits.ensures c.map.ensures.next c.map.ensures.taken c.map.ensures.room
-      (c.take.ensures.after ∙ ap (without_frame c.map.new.frames) c.take.ensures.least)).next
+    c.args.tables.now c.map.new.self c.args.frames.now c.map.new.frames c.take.new.self c.args.jobs.now c.map.new.jobs c.requires.count c.requires.can.can
+    c.free_count.ensures c.need-missing.ensures c.leaf_bits.ensures c.map.ensures.next c.map.ensures.taken c.map.ensures.room
+    (c.take.ensures.after ∙ ap (without_frame c.map.new.frames) c.take.ensures.least)).next
 
 pub returns-clause-rest : goal.returns-clause-rest
 returns-clause-rest c = λ rest can.
     (lays c.args.count c.free_count.result c.need-missing.result c.leaf_bits.result (open_page c.args.page c.args.bits) rest
-      c.args.tables.now c.map.new.self c.args.frames.now c.map.new.frames c.take.new.self c.args.jobs.now c.map.new.jobs c.requires.count can
-      c.free_count.ensures c.need-missing.ensures c.leaf_bits.ensures c.map.ensures.next c.map.ensures.taken c.map.ensures.room
-      (c.take.ensures.after ∙ ap (without_frame c.map.new.frames) c.take.ensures.least)).can
+    c.args.tables.now c.map.new.self c.args.frames.now c.map.new.frames c.take.new.self c.args.jobs.now c.map.new.jobs c.requires.count can
+    c.free_count.ensures c.need-missing.ensures c.leaf_bits.ensures c.map.ensures.next c.map.ensures.taken c.map.ensures.room
+    (c.take.ensures.after ∙ ap (without_frame c.map.new.frames) c.take.ensures.least)).can

@@ -16,8 +16,8 @@ loop-page-preserved c =
     let more = take_more c.args.pages.now i (0, record { 0 = 0 }) here in
     let so_far = subst (λ rest. Counting c.args.size (take i c.args.pages.now) rest c.loop-page.count c.loop-page.next) cons c.loop-page.invariant in
     elim c.if-next-table.branch [
-      then-next-table w ↦ rw (w.next-is, w.count-is, more)
-      (counting_new c.args.size (take i c.args.pages.now) (drop (i + 1) c.args.pages.now) p c.loop-page.count c.loop-page.next c.requires.size w.if-next-table.true so_far)
-    | else-next-table w ↦ rw (w.next-is, w.count-is, more)
-      (counting_same c.args.size (take i c.args.pages.now) (drop (i + 1) c.args.pages.now) p c.loop-page.count c.loop-page.next c.requires.size w.if-next-table.false so_far)
+      | then-next-table w ↦ rw (w.next-is, w.count-is, more)
+          (counting_new c.args.size (take i c.args.pages.now) (drop (i + 1) c.args.pages.now) p c.loop-page.count c.loop-page.next c.requires.size w.if-next-table.true so_far)
+      | else-next-table w ↦ rw (w.next-is, w.count-is, more)
+          (counting_same c.args.size (take i c.args.pages.now) (drop (i + 1) c.args.pages.now) p c.loop-page.count c.loop-page.next c.requires.size w.if-next-table.false so_far)
     ]

@@ -26,18 +26,18 @@ unmap_shadows-requires c =
     let room = c.requires.spare in
     record {
       can = can_unmap (space_of c.args.tables.now c.args.marks.now c.requires.agree.heap c.args.waiting.now) a.regions c.requires.agree.free c.args.jobs.now c.args.seen.number c.args.seen.fact
-          a.agree c.requires.marked c.know_tables.ensures.range c.requires.within c.requires.is c.requires.live (omega arith)
+          a.agree c.requires.marked c.know_tables.ensures.range c.requires.within c.requires.is c.requires.live (omega arith);
     }
 
 pub let_go-requires-clause-shadows : goal.let_go-requires-clause-shadows
 let_go-requires-clause-shadows c =
     let a = c.requires.agree.agree in
     let objects : c.kill.new.self.objects ≡ kill c.args.seen.number c.args.call (grant c.shadow_pages-pages.result c.args.size (c.args.block.start + 16) c.args.marks.now.objects) =
-        ap (λ (g : Grants). g.objects) c.kill.ensures.grants ∙ ap (λ (g : Grants). kill c.args.seen.number c.args.call g.objects) c.grant-object.ensures.grants in
+    ap (λ (g : Grants). g.objects) c.kill.ensures.grants ∙ ap (λ (g : Grants). kill c.args.seen.number c.args.call g.objects) c.grant-object.ensures.grants in
     let shows : ShowsLive c.unmap_shadows.new.tables (kill c.args.seen.number c.args.call (grant c.shadow_pages-pages.result c.args.size (c.args.block.start + 16) c.args.marks.now.objects)) =
-        shows_live (space_of c.args.tables.now c.args.marks.now c.requires.agree.heap c.args.waiting.now) a.regions c.requires.agree.free c.unmap_shadows.new.tables c.args.seen.number c.args.seen.fact
-        (kill c.args.seen.number c.args.call (grant c.shadow_pages-pages.result c.args.size (c.args.block.start + 16) c.args.marks.now.objects)) a.agree c.requires.is c.unmap_shadows.ensures.pages
-        (λ page dead out. dead_page_granted c.args.marks.now.objects c.args.seen.number c.args.call page c.shadow_pages-pages.result c.args.size (c.args.block.start + 16) c.args.seen.fact c.requires.is dead out) in
+    shows_live (space_of c.args.tables.now c.args.marks.now c.requires.agree.heap c.args.waiting.now) a.regions c.requires.agree.free c.unmap_shadows.new.tables c.args.seen.number c.args.seen.fact
+    (kill c.args.seen.number c.args.call (grant c.shadow_pages-pages.result c.args.size (c.args.block.start + 16) c.args.marks.now.objects)) a.agree c.requires.is c.unmap_shadows.ensures.pages
+    (λ page dead out. dead_page_granted c.args.marks.now.objects c.args.seen.number c.args.call page c.shadow_pages-pages.result c.args.size (c.args.block.start + 16) c.args.seen.fact c.requires.is dead out) in
     subst (λ (os : List ObjectFact). ShowsLive c.unmap_shadows.new.tables os) (sym objects) shows
 
 pub let_go-requires-clause-waits : goal.let_go-requires-clause-waits
@@ -46,9 +46,9 @@ let_go-requires-clause-waits c = c.requires.agree.agree.agree.heap.waiting.few
 pub let_go-requires-clause-known : goal.let_go-requires-clause-known
 let_go-requires-clause-known c =
     let objects : c.kill.new.self.objects ≡ kill c.args.seen.number c.args.call (grant c.shadow_pages-pages.result c.args.size (c.args.block.start + 16) c.args.marks.now.objects) =
-        ap (λ (g : Grants). g.objects) c.kill.ensures.grants ∙ ap (λ (g : Grants). kill c.args.seen.number c.args.call g.objects) c.grant-object.ensures.grants in
+    ap (λ (g : Grants). g.objects) c.kill.ensures.grants ∙ ap (λ (g : Grants). kill c.args.seen.number c.args.call g.objects) c.grant-object.ensures.grants in
     subst (λ (os : List ObjectFact). All (λ (x : ℕ). x < length os) (c.args.waiting.now ++ c.args.seen.number ∷ [])) (sym objects)
-        (known_all c.args.marks.now.objects c.args.waiting.now c.args.seen.number c.args.call c.shadow_pages-pages.result c.args.size (c.args.block.start + 16) c.requires.agree.agree.agree.heap.waiting.known c.requires.within)
+    (known_all c.args.marks.now.objects c.args.waiting.now c.args.seen.number c.args.call c.shadow_pages-pages.result c.args.size (c.args.block.start + 16) c.requires.agree.agree.agree.heap.waiting.known c.requires.within)
 
 pub let_go-requires-clause-spare : goal.let_go-requires-clause-spare
 let_go-requires-clause-spare c =

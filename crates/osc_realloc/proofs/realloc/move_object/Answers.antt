@@ -110,10 +110,10 @@ map_shadows-requires-clause-can c =
     let is_room : IsRoom (room_of c.args.n) = subst IsRoom c.room_of.ensures.value c.room_of.ensures.is_room in
     let now_is = c.take_block-block.ensures.free ∙ ap (λ (r : Room). (placed c.args.in_place c.args.heap.now r c.args.frames.now).free) c.room_of.ensures.value in
     let before : CanMap c.args.tables.now c.take_block-block.new.frames c.args.jobs.now c.next_page-first.result (shadow_pages (room_of c.args.n)) =
-        can_map_in c.args.in_place c.args.tables.now c.args.marks.now c.args.heap.now c.args.waiting.now c.args.frames.now c.take_block-block.new.frames c.args.jobs.now (room_of c.args.n) c.next_page-first.result
-        c.requires.agree c.know_tables.ensures c.next_page-first.ensures.valid is_room c.requires.enough has.few c.requires.spare c.next_page-first.ensures.page now_is c.take_block-block.ensures.count in
+    can_map_in c.args.in_place c.args.tables.now c.args.marks.now c.args.heap.now c.args.waiting.now c.args.frames.now c.take_block-block.new.frames c.args.jobs.now (room_of c.args.n) c.next_page-first.result
+    c.requires.agree c.know_tables.ensures c.next_page-first.ensures.valid is_room c.requires.enough has.few c.requires.spare c.next_page-first.ensures.page now_is c.take_block-block.ensures.count in
     let can : CanMap c.args.tables.now c.take_block-block.new.frames c.args.jobs.now c.next_page-first.result (shadow_pages c.take_block-block.result.room) =
-        subst (λ (r : Room). CanMap c.args.tables.now c.take_block-block.new.frames c.args.jobs.now c.next_page-first.result (shadow_pages r)) (sym room) before in
+    subst (λ (r : Room). CanMap c.args.tables.now c.take_block-block.new.frames c.args.jobs.now c.next_page-first.result (shadow_pages r)) (sym room) before in
     let tables = (agreed (space_of c.args.tables.now c.args.marks.now c.args.heap.now c.args.waiting.now) c.requires.agree.regions c.args.frames.now a).tables in
     let frames = a.frames in
     let small = a.heap.small c.args.seen.number c.args.seen.fact (c.requires.is, c.requires.live) in
@@ -133,9 +133,9 @@ map_shadows-requires-clause-can c =
     let block : pieces (block_bytes c.take_block-block.result.room) ≡ pieces (block_bytes (room_of c.args.n)) = ap (λ (r : Room). pieces (block_bytes r)) room in
     let whole : pieces (whole_end c.common_bytes-bytes.result) ≡ pieces (whole_end (min c.args.seen.fact.size c.args.n)) = ap (λ b. pieces (whole_end b)) c.common_bytes-bytes.ensures in
     can_map_moved c.args.tables.now c.replace_object-object.new.tables c.args.marks.now c.replace_object-object.new.marks c.take_block-block.new.frames c.args.jobs.now c.put_bytes.new.jobs c.replace_object-object.new.jobs.pushed
-        (range_with_len c.args.seen.fact.first c.args.seen.fact.pages) c.args.harts c.args.seen.number c.args.call c.next_page-first.result c.args.n (c.take_block-block.result.start + 16) (shadow_pages c.take_block-block.result.room)
-        (facts c.replace_object-object.new.marks.objects (c.args.waiting.now ++ c.args.seen.number ∷ []))
-        can (omega arith) c.requires.within c.next_page-first.ensures.page c.replace_object-object.ensures.grants c.replace_object-object.ensures.next (omega arith)
+    (range_with_len c.args.seen.fact.first c.args.seen.fact.pages) c.args.harts c.args.seen.number c.args.call c.next_page-first.result c.args.n (c.take_block-block.result.start + 16) (shadow_pages c.take_block-block.result.room)
+    (facts c.replace_object-object.new.marks.objects (c.args.waiting.now ++ c.args.seen.number ∷ []))
+    can (omega arith) c.requires.within c.next_page-first.ensures.page c.replace_object-object.ensures.grants c.replace_object-object.ensures.next (omega arith)
 
 pub returns-clause-plan : goal.returns-clause-plan
 returns-clause-plan c batch =
@@ -144,14 +144,14 @@ returns-clause-plan c batch =
     let heap_is = c.take_block-block.ensures.heap ∙ ap (λ (r : Room). (placed c.args.in_place c.args.heap.now r c.args.frames.now).heap) c.room_of.ensures.value in
     let now_is = c.take_block-block.ensures.free ∙ ap (λ (r : Room). (placed c.args.in_place c.args.heap.now r c.args.frames.now).free) c.room_of.ensures.value in
     let draft = draft_is (terms c.args.harts c.args.call batch) (seen_of c.args.seen) c.args.in_place c.args.n c.take_block-block.result c.args.tables.now c.replace_object-object.new.tables c.map_shadows.new.tables c.args.marks.now c.replace_object-object.new.marks
-        c.args.heap.now c.take_block-block.new.heap c.args.waiting.now c.args.frames.now c.take_block-block.new.frames c.map_shadows.new.frames c.args.jobs.now.pushed c.replace_object-object.new.jobs.pushed c.put_bytes.new.jobs.pushed c.map_shadows.new.jobs.pushed
-        (bytes_jobs c.args.in_place c.take_block-block.new.heap.pages c.args.seen.fact c.take_block-block.result c.args.n) c.next_page-first.result
-        c.requires.is heap_is now_is c.replace_object-object.ensures.grants c.replace_object-object.ensures.next
-        (c.put_bytes.ensures.pushed ∙ ap (λ b. c.replace_object-object.new.jobs.pushed ++ b) bytes) refl c.next_page-first.ensures.page c.map_shadows.ensures.next in
+    c.args.heap.now c.take_block-block.new.heap c.args.waiting.now c.args.frames.now c.take_block-block.new.frames c.map_shadows.new.frames c.args.jobs.now.pushed c.replace_object-object.new.jobs.pushed c.put_bytes.new.jobs.pushed c.map_shadows.new.jobs.pushed
+    (bytes_jobs c.args.in_place c.take_block-block.new.heap.pages c.args.seen.fact c.take_block-block.result c.args.n) c.next_page-first.result
+    c.requires.is heap_is now_is c.replace_object-object.ensures.grants c.replace_object-object.ensures.next
+    (c.put_bytes.ensures.pushed ∙ ap (λ b. c.replace_object-object.new.jobs.pushed ++ b) bytes) refl c.next_page-first.ensures.page c.map_shadows.ensures.next in
     moved_is (terms c.args.harts c.args.call batch) (seen_of c.args.seen) c.args.in_place c.args.n c.take_block-block.result
-        (draft_of c.args.tables.now c.args.marks.now c.args.heap.now c.args.waiting.now c.args.frames.now c.args.jobs.now.pushed)
-        (draft_of c.map_shadows.new.tables c.replace_object-object.new.marks c.take_block-block.new.heap c.args.waiting.now c.map_shadows.new.frames c.map_shadows.new.jobs.pushed)
-        c.replace_object-object.result (c.next_page-first.result * 4096 + (c.take_block-block.result.start + 16) % 4096) c.next_page-first.result
-        c.requires.in_place c.requires.is
-        (block ∙ block_is c.args.in_place c.args.seen.fact c.args.n c.args.tables.now c.args.marks.now c.args.heap.now c.args.waiting.now c.args.frames.now c.args.jobs.now.pushed)
-        c.replace_object-object.ensures.number c.next_page-first.ensures.page refl draft
+    (draft_of c.args.tables.now c.args.marks.now c.args.heap.now c.args.waiting.now c.args.frames.now c.args.jobs.now.pushed)
+    (draft_of c.map_shadows.new.tables c.replace_object-object.new.marks c.take_block-block.new.heap c.args.waiting.now c.map_shadows.new.frames c.map_shadows.new.jobs.pushed)
+    c.replace_object-object.result (c.next_page-first.result * 4096 + (c.take_block-block.result.start + 16) % 4096) c.next_page-first.result
+    c.requires.in_place c.requires.is
+    (block ∙ block_is c.args.in_place c.args.seen.fact c.args.n c.args.tables.now c.args.marks.now c.args.heap.now c.args.waiting.now c.args.frames.now c.args.jobs.now.pushed)
+    c.replace_object-object.ensures.number c.next_page-first.ensures.page refl draft

@@ -15,7 +15,7 @@ pub returns-in-Some-clause-plan : goal.returns-in-Some-clause-plan
 returns-in-Some-clause-plan c batch =
     let s = seen_live c.args.tables.now c.args.marks.now.objects c.args.pointer c.object_with.result c.unwrap-seen.result c.requires.words c.object_with.ensures.object c.unwrap-seen.ensures in
     damaged_is (terms c.args.harts c.args.call batch) c.args.pointer c.args.n (found_of c.args.found) (draft_of c.args.tables.now c.args.marks.now c.args.heap.now c.args.waiting.now c.args.frames.now c.args.jobs.now.pushed) (seen_of c.unwrap-seen.result)
-        (damage_answer c.in-Some.damage) s.is s.state c.in-Some.ensures
+    (damage_answer c.in-Some.damage) s.is s.state c.in-Some.ensures
 
 pub move_object-requires-clause-live : goal.move_object-requires-clause-live
 move_object-requires-clause-live c =
@@ -25,26 +25,26 @@ pub returns-in-Some-Shadow-clause-plan : goal.returns-in-Some-Shadow-clause-plan
 returns-in-Some-Shadow-clause-plan c batch =
     let s = seen_live c.args.tables.now c.args.marks.now.objects c.args.pointer c.object_with.result c.unwrap-seen.result c.requires.words c.object_with.ensures.object c.unwrap-seen.ensures in
     wanted_is (terms c.args.harts c.args.call batch) c.args.pointer c.args.n (found_of c.args.found) (draft_of c.args.tables.now c.args.marks.now c.args.heap.now c.args.waiting.now c.args.frames.now c.args.jobs.now.pushed) (seen_of c.unwrap-seen.result)
-        (Some answer.NoShadow) s.is s.state c.in_default.ensures
-        (wants_is c.args.tables.now c.args.marks.now c.args.heap.now c.args.waiting.now c.args.frames.now c.args.jobs.now.pushed c.args.n (seen_of c.unwrap-seen.result) c.is_room-in_place.result c.room_of-room.result c.room_of.result c.newly_taken-block_frames.result c.shadow_pages.result (Some answer.NoShadow)
-            c.room_of-room.ensures.value c.room_of.ensures.value c.is_room-in_place.ensures c.newly_taken-block_frames.ensures c.shadow_pages.ensures (rw c.in-Some-Shadow.field-0-is at c.in-Some-Shadow.ensures))
+    (Some answer.NoShadow) s.is s.state c.in_default.ensures
+    (wants_is c.args.tables.now c.args.marks.now c.args.heap.now c.args.waiting.now c.args.frames.now c.args.jobs.now.pushed c.args.n (seen_of c.unwrap-seen.result) c.is_room-in_place.result c.room_of-room.result c.room_of.result c.newly_taken-block_frames.result c.shadow_pages.result (Some answer.NoShadow)
+    c.room_of-room.ensures.value c.room_of.ensures.value c.is_room-in_place.ensures c.newly_taken-block_frames.ensures c.shadow_pages.ensures (rw c.in-Some-Shadow.field-0-is at c.in-Some-Shadow.ensures))
 
 pub returns-in-Some-Frames-clause-plan : goal.returns-in-Some-Frames-clause-plan
 returns-in-Some-Frames-clause-plan c batch =
     let s = seen_live c.args.tables.now c.args.marks.now.objects c.args.pointer c.object_with.result c.unwrap-seen.result c.requires.words c.object_with.ensures.object c.unwrap-seen.ensures in
     wanted_is (terms c.args.harts c.args.call batch) c.args.pointer c.args.n (found_of c.args.found) (draft_of c.args.tables.now c.args.marks.now c.args.heap.now c.args.waiting.now c.args.frames.now c.args.jobs.now.pushed) (seen_of c.unwrap-seen.result)
-        (Some answer.NoFrames) s.is s.state c.in_default.ensures
-        (wants_is c.args.tables.now c.args.marks.now c.args.heap.now c.args.waiting.now c.args.frames.now c.args.jobs.now.pushed c.args.n (seen_of c.unwrap-seen.result) c.is_room-in_place.result c.room_of-room.result c.room_of.result c.newly_taken-block_frames.result c.shadow_pages.result (Some answer.NoFrames)
-            c.room_of-room.ensures.value c.room_of.ensures.value c.is_room-in_place.ensures c.newly_taken-block_frames.ensures c.shadow_pages.ensures (rw c.in-Some-Frames.field-0-is at c.in-Some-Frames.ensures))
+    (Some answer.NoFrames) s.is s.state c.in_default.ensures
+    (wants_is c.args.tables.now c.args.marks.now c.args.heap.now c.args.waiting.now c.args.frames.now c.args.jobs.now.pushed c.args.n (seen_of c.unwrap-seen.result) c.is_room-in_place.result c.room_of-room.result c.room_of.result c.newly_taken-block_frames.result c.shadow_pages.result (Some answer.NoFrames)
+    c.room_of-room.ensures.value c.room_of.ensures.value c.is_room-in_place.ensures c.newly_taken-block_frames.ensures c.shadow_pages.ensures (rw c.in-Some-Frames.field-0-is at c.in-Some-Frames.ensures))
 
 pub returns-in-None-clause-plan : goal.returns-in-None-clause-plan
 returns-in-None-clause-plan c batch =
     let s = seen_live c.args.tables.now c.args.marks.now.objects c.args.pointer c.object_with.result c.unwrap-seen.result c.requires.words c.object_with.ensures.object c.unwrap-seen.ensures in
     c.move_object.ensures.plan batch
     ∙ wanted_is (terms c.args.harts c.args.call batch) c.args.pointer c.args.n (found_of c.args.found) (draft_of c.args.tables.now c.args.marks.now c.args.heap.now c.args.waiting.now c.args.frames.now c.args.jobs.now.pushed) (seen_of c.unwrap-seen.result)
-        None s.is s.state c.in_default.ensures
-        (wants_is c.args.tables.now c.args.marks.now c.args.heap.now c.args.waiting.now c.args.frames.now c.args.jobs.now.pushed c.args.n (seen_of c.unwrap-seen.result) c.is_room-in_place.result c.room_of-room.result c.room_of.result c.newly_taken-block_frames.result c.shadow_pages.result None
-            c.room_of-room.ensures.value c.room_of.ensures.value c.is_room-in_place.ensures c.newly_taken-block_frames.ensures c.shadow_pages.ensures c.in-None.ensures)
+    None s.is s.state c.in_default.ensures
+    (wants_is c.args.tables.now c.args.marks.now c.args.heap.now c.args.waiting.now c.args.frames.now c.args.jobs.now.pushed c.args.n (seen_of c.unwrap-seen.result) c.is_room-in_place.result c.room_of-room.result c.room_of.result c.newly_taken-block_frames.result c.shadow_pages.result None
+    c.room_of-room.ensures.value c.room_of.ensures.value c.is_room-in_place.ensures c.newly_taken-block_frames.ensures c.shadow_pages.ensures c.in-None.ensures)
 
 pub returns-in-None-clause-object : goal.returns-in-None-clause-object
 returns-in-None-clause-object c = c.move_object.ensures.object c.args.pointer
