@@ -1,11 +1,10 @@
 -- The header words of a live object are read through its pages where its block has them.
-use Rattle.std.proofs.Common.{ℕ, zero, suc, ◌+◌, ◌-◌, ◌*◌, ◌/◌, ◌%◌, ◌≡◌, ◌<◌, ◌≤◌, ◌==◌, ◌⊎◌, inl, inr, Bool, true, false, Option, Some, None, option_map, unwrap_or, List, [], ◌∷◌, slice_get, arith, refl, ap, sym, ◌∙◌, subst}
+use Rattle.std.proofs.Common.{ℕ, zero, suc, ◌+◌, ◌-◌, ◌*◌, ◌/◌, ◌%◌, ◌≡◌, ◌<◌, ◌≤◌, ◌==◌, ◌⊎◌, inl, inr, true, false, Option, Some, None, option_map, unwrap_or, List, [], ◌∷◌, slice_get, arith, refl, ap, sym, ◌∙◌, subst}
 use Rattle.std.specs.Prelude.{if◌then◌else◌}
 use Rattle.std.proofs.lemmas.Bool.Decides.{nat_tests}
-use Rattle.osc_word.specs.declared.settings.HeapKind.TheVariants.{Oscar}
 use Rattle.osc_word.specs.declared.job_list.WordAt.{WordAt}
 use Rattle.osc_word.specs.AddressMap.{first_shadow_page}
-use Rattle.osc_class.specs.Rooms.{room_of, block_bytes, shadow_pages}
+use Rattle.osc_class.specs.Rooms.{block_bytes}
 use Rattle.osc_slot.specs.declared.Block.{Block}
 use Rattle.osc_slot.specs.declared.HeapPage.{HeapPage}
 use Rattle.osc_slot.specs.Areas.{IsPlaced, block_at_slot}
@@ -17,12 +16,11 @@ use Rattle.osc_paging.specs.KeptTables.{KeptTables, mapping_at}
 use Rattle.osc_space.specs.declared.ObjectFact.{ObjectFact}
 use Rattle.osc_space.specs.declared.ObjectState.{ObjectState}
 use Rattle.osc_space.specs.declared.ObjectState.TheVariants.{Live, Dead}
-use Rattle.osc_space.specs.declared.HeaderLook.{HeaderLook}
 use Rattle.osc_space.specs.declared.HeaderLook.TheVariants.{Words, Zero}
 use Rattle.osc_space.specs.LeafFlags.{read_write_at}
 use Rattle.osc_space.specs.Space.{Space, Closing, Keeps}
 use Rattle.osc_space.specs.Objects.{GrantedFrom, Seen, object_at, is_live, is_live_state}
-use Rattle.osc_space.specs.Header.{block_of, mapped_frame, mapped_word, look_at, look_by_state, header_in, header_at}
+use Rattle.osc_space.specs.Header.{block_of, mapped_frame, mapped_word, look_at, look_by_state, header_in}
 use Rattle.osc_space.specs.BlockWords.{frame_at, word_of_address, block_word}
 use Rattle.osc_space.specs.Agree.{IsLive, ObjectsAgree}
 use Rattle.osc_space.specs.Finish.{finished}
@@ -30,7 +28,7 @@ use Rattle.osc_space.proofs.ObjectLawProofs.{pages_are_granted_once, looks_find_
 use Rattle.osc_parts.specs.Settled.{PartsFit}
 use Rattle.osc_parts.proofs.Blocks.{room_bytes, lies_at}
 use Rattle.osc_parts.proofs.PlainMalloc.{block_high}
-use Rattle.osc_calls.specs.Kernel.{KernelState, Process}
+use Rattle.osc_calls.specs.Kernel.{KernelState}
 use Rattle.osc_settled.specs.Memory.{at_rest}
 use Rattle.osc_settled.specs.UnderWay.{closing_of}
 use Rattle.osc_settled.specs.FollowLaws.{HeaderFits, HeadersFollow}

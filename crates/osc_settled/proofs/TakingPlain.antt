@@ -1,5 +1,5 @@
 -- A malloc under the plain heap takes exactly the frames that it needs.
-use Rattle.std.proofs.Common.{ℕ, zero, suc, ◌+◌, ◌*◌, ◌/◌, ◌^◌, ◌≡◌, ◌<◌, ◌≤◌, Bool, true, false, cond, is_some, Some, None, List, length, arith, refl, ap, sym, ◌∙◌, subst}
+use Rattle.std.proofs.Common.{ℕ, ◌+◌, ◌/◌, ◌≡◌, ◌≤◌, Bool, true, false, cond, is_some, None, List, length, arith, ap, sym, ◌∙◌, subst}
 use Rattle.std.proofs.lemmas.List.FromFn.{length-map-range_with_len}
 use Rattle.osc_word.specs.declared.settings.HeapKind.TheVariants.{Plain}
 use Rattle.osc_sv39.specs.declared.entries.Mapping.{Mapping}

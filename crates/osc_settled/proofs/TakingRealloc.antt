@@ -10,7 +10,7 @@ use Rattle.osc_paging.specs.KeptTables.{frame_of}
 use Rattle.osc_paging.specs.TableChanges.{Changed, leaf_cleared, unmap_page, without_page}
 use Rattle.osc_space.specs.Space.{Draft, first_reason, unless}
 use Rattle.osc_space.specs.Free.{unmap_all}
-use Rattle.osc_space.specs.PlainHeap.{plain_reasons, place_plain, copy_block, emptied_pages, unmap_emptied, let_go_plain, kept_bytes, plain_resize, plain_realloc_reasons, plain_realloc_of, plain_realloc_plan}
+use Rattle.osc_space.specs.PlainHeap.{plain_reasons, place_plain, copy_block, emptied_pages, unmap_emptied, kept_bytes, plain_resize, plain_realloc_reasons, plain_realloc_of, plain_realloc_plan}
 use Rattle.osc_space.specs.Share.{Regions}
 use Rattle.osc_parts.specs.Settled.{Settled}
 use Rattle.osc_parts.proofs.PlainMalloc.{plain_enough}
