@@ -1,20 +1,17 @@
 -- The pages of an image that needs no more frames than the machine has can be laid, one after another.
-use Rattle.std.proofs.Common.{ℕ, zero, suc, ◌+◌, ◌-◌, ◌*◌, ◌/◌, ◌^◌, ◌≡◌, ◌<◌, ◌≤◌, ◌==◌, Bool, true, false, cond, Option, Some, None, is_some, List, [], ◌∷◌, ◌++◌, length, map, position, replicate, slice_set, arith, rules, refl, ap, sym, ◌∙◌, subst, length-append}
-use Rattle.std.specs.Prelude.{IsTrue}
+use Rattle.std.proofs.Common.{ℕ, zero, suc, ◌+◌, ◌-◌, ◌/◌, ◌^◌, ◌≡◌, ◌<◌, ◌≤◌, ◌==◌, Bool, true, false, cond, Option, Some, None, is_some, List, [], ◌∷◌, ◌++◌, length, map, position, replicate, slice_set, arith, refl, ap, sym, ◌∙◌, length-append}
 use Rattle.std.proofs.lemmas.Bool.Decides.{nat_tests}
 use Rattle.std.proofs.lemmas.List.{map-append}
 use Rattle.std.proofs.lemmas.List.Sums.{sum_by-cons}
 use Rattle.osc_word.specs.declared.settings.Config.{Config}
-use Rattle.osc_word.specs.AddressMap.{is_image_or_stack}
 use Rattle.osc_sv39.specs.declared.entries.Mapping.{Mapping}
-use Rattle.osc_sv39.specs.declared.flags.PteBits.{PteBits}
 use Rattle.osc_sv39.specs.Walk.{piece}
 use Rattle.osc_sv39.proofs.EntriesBack.{leaves_read_back}
 use Rattle.osc_slot.specs.Heap.{free_count}
 use Rattle.osc_image.specs.Image.{Image, pages, bits_at}
 use Rattle.osc_image.specs.Frames.{different, stack_pages, tables_below, needed_frames}
-use Rattle.osc_paging.specs.KeptTables.{KeptTables, mapping_at, frame_of, root_of, need}
-use Rattle.osc_paging.specs.TableChanges.{Changed, link_all, leaf_put, map_page, table_frame}
+use Rattle.osc_paging.specs.KeptTables.{mapping_at, frame_of, root_of, need}
+use Rattle.osc_paging.specs.TableChanges.{Changed, link_all, leaf_put, table_frame}
 use Rattle.osc_paging.specs.TableLaws.{MapsPage}
 use Rattle.osc_paging.proofs.TableLists.{mapping_at-with_page}
 use Rattle.osc_paging.proofs.Needed.{Grown, link_all-grown, link_all-pages}

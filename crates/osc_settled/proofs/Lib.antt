@@ -19,10 +19,14 @@ pub mod Apart
 pub mod Forking
 pub mod Following
 pub mod Totals
+pub mod TakingForks
+pub mod TakingPlain
+pub mod TakingRealloc
 pub mod Taking
 pub mod Laying
 pub mod Starting
 pub mod Shadows
+pub mod Headers
 pub mod Manned
 pub mod Different
 pub mod Lacking

@@ -46,10 +46,10 @@ live_has page (o ∷ objects) e = go (is_live o) (has_page page o) e (live_has p
 before : (page next : ℕ) → is_within first_shadow_page next page ≡ true → page < next
 before page next e = grind (arith, nat_tests, e)
 
-oscar : (kind : HeapKind) (s : Space) → kind ≡ Oscar → HeapAgrees kind s → ObjectsAgree s
+pub oscar : (kind : HeapKind) (s : Space) → kind ≡ Oscar → HeapAgrees kind s → ObjectsAgree s
 oscar kind s e h = subst (λ x. HeapAgrees x s) e h
 
-live_kept : (s t : Space) (object : ℕ) (o : ObjectFact) → t.objects ≡ s.objects → IsLive s object o → IsKept t object o
+pub live_kept : (s t : Space) (object : ℕ) (o : ObjectFact) → t.objects ≡ s.objects → IsLive s object o → IsKept t object o
 live_kept s t object o e l = (ap (λ (os : List ObjectFact). slice_get os object) e ∙ l.0, ap (λ b. b || is_waiting t object) l.1)
 
 shadows : (s t : Space) → t.tables.pages ≡ s.tables.pages → t.objects ≡ s.objects → ObjectsAgree t → ShadowsFit s t

@@ -1,10 +1,11 @@
 -- How many jobs a plan pushes, and how many frames it takes.
 use Rattle.std.proofs.Common.{ℕ, zero, suc, ◌+◌, ◌-◌, ◌*◌, ◌/◌, ◌%◌, ◌≡◌, ◌≤◌, ◌==◌, nat_lt, nat_le, min, max, Bool, true, false, cond, Option, Some, None, is_none, unwrap_or, List, [], ◌∷◌, ◌++◌, length, arith, refl, ap, sym, ◌∙◌, subst}
+use Rattle.std.specs.Prelude.{if◌then◌else◌}
 use Rattle.std.specs.List.{range_with_len, flat_map}
 use Rattle.std.proofs.lemmas.List.{length-append}
 use Rattle.std.proofs.lemmas.List.Concat.{flat_map-cons}
 use Rattle.osc_word.specs.declared.settings.HeapKind.{HeapKind}
-use Rattle.osc_word.specs.declared.settings.HeapKind.TheVariants.{Oscar}
+use Rattle.osc_word.specs.declared.settings.HeapKind.TheVariants.{Oscar, Plain}
 use Rattle.osc_word.specs.declared.job_list.Job.{Job}
 use Rattle.osc_word.specs.declared.job_list.Job.TheVariants.{Tell, ToOut}
 use Rattle.osc_word.specs.declared.calls.Answer.{Answer}
@@ -12,14 +13,16 @@ use Rattle.osc_word.specs.declared.calls.Answer.TheVariants as answers
 use Rattle.osc_word.specs.declared.calls.Call.{Call}
 use Rattle.osc_word.specs.declared.calls.Call.TheVariants as calls
 use Rattle.osc_class.specs.Rooms.{room_of, shadow_pages}
-use Rattle.osc_slot.specs.Heap.{free_count}
+use Rattle.osc_slot.specs.declared.Block.{Block}
+use Rattle.osc_slot.specs.Slots.{is_room}
+use Rattle.osc_slot.specs.Heap.{free_count, block_of_user}
 use Rattle.osc_paging.specs.KeptTables.{KeptTables, need}
-use Rattle.osc_space.specs.Space.{Draft, Outcome, first_reason}
+use Rattle.osc_space.specs.Space.{Draft, Outcome, Terms, first_reason}
 use Rattle.osc_space.specs.Objects.{next_page}
 use Rattle.osc_space.specs.Header.{Found}
 use Rattle.osc_space.specs.Malloc.{block_need}
 use Rattle.osc_space.specs.Share.{Regions, next_shared_page, share_plan}
-use Rattle.osc_space.specs.Fork.{fork_plan, fork_reasons}
+use Rattle.osc_space.specs.Fork.{private_frames, fork_plan, fork_reasons}
 use Rattle.osc_parts.specs.Settled.{Settled}
 use Rattle.osc_parts.specs.PlanFits.{PlanFits}
 use Rattle.osc_parts.proofs.MallocParts.{mallocs_take_need}
@@ -27,17 +30,20 @@ use Rattle.osc_parts.proofs.ShareParts.{shares_fit}
 use Rattle.osc_parts.proofs.ForkParts.{forks_fit}
 use Rattle.osc_calls.specs.Kernel.{KernelState, Process, Calling, Waiting, process_at, is_last, idle_hart}
 use Rattle.osc_calls.specs.Requests.{meant}
-use Rattle.osc_calls.specs.Refusals.{draft_of, sharing_of, refusal_of, malloc_wants}
+use Rattle.osc_calls.specs.Refusals.{draft_of, sharing_of, refusal_of, malloc_wants, realloc_wants, block_wants}
 use Rattle.osc_calls.specs.Planned.{Planned, planned_unless}
 use Rattle.osc_calls.specs.HeapPlans.{terms_of, malloc_by, free_of, realloc_by}
 use Rattle.osc_calls.specs.WritePlan.{write_count, load_frame, first_unreadable, out_job, word_job, out_jobs, write_by}
 use Rattle.osc_calls.specs.ProcessPlans.{new_hart, value_left, done_by, fork_done, spawn_done, share_done}
 use Rattle.osc_calls.specs.Plan.{plan_meant, plan_of, committed, plan_by, plan_waiting, plan}
 use Rattle.osc_settled.specs.Records.{is_living}
-use Rattle.osc_settled.specs.FollowLaws.{most_jobs, JobsHaveRoom, MallocsTake, SharesTake}
+use Rattle.osc_settled.specs.FollowLaws.{most_jobs, JobsHaveRoom, plain_need, MallocsTake, PlainMallocsTake, PlainReallocsTake, ForksTake, SharesTake}
 use Rattle.osc_settled.proofs.Outcomes.{Asks, asks, caller_lives}
 use Rattle.osc_settled.proofs.Answering.{settled, has_terms, malloc_fits, null_fits, realloc_fits}
 use Rattle.osc_settled.proofs.Forking.{none_of}
+use Rattle.osc_settled.proofs.TakingForks.{fork_takes}
+use Rattle.osc_settled.proofs.TakingPlain.{plain_malloc_takes}
+use Rattle.osc_settled.proofs.TakingRealloc.{plain_realloc_takes}
 
 -- ---- a plan that commits
 plan_is : (found : Found) (k : KernelState) (c : Calling) (p : Process) → k.under_way ≡ Waiting c → process_at k c.pid ≡ Some p
@@ -153,6 +159,44 @@ mallocs_take words found k c p n f u e h m r =
     let is = plan_is found k c p u e ∙ ap (λ call. committed c (plan_meant found c p k call)) m in
     subst (λ (x : KernelState). free_count x.free + (block_need (draft_of k p) (room_of n) + need p.space.tables (next_page p.space.objects) (shadow_pages (room_of n))) ≡ free_count k.free) (sym is)
     (oscar_takes k.config.heap k.config.batch words k.regions n (draft_of k p) h (settled words k c p (λ x y. 0) a e) (subst (λ call. refusal_of call p k ≡ None) m r))
+
+-- under the plain heap
+plain_takes : (kind : HeapKind) (batch : ℕ) (words : List ℕ) (regions : Regions) (n : ℕ) (d : Draft) → kind ≡ Plain → Settled kind batch (λ x y. 0) words regions d
+    → first_reason (malloc_wants kind n d) ≡ None
+    → free_count (malloc_by kind n d).draft.free + plain_need n d ≡ free_count d.free
+plain_takes kind batch words regions n d h s e =
+    subst (λ x. free_count (malloc_by x n d).draft.free + plain_need n d ≡ free_count d.free) (sym h)
+    (plain_malloc_takes batch (λ x y. 0) words regions n d (subst (λ x. Settled x batch (λ a b. 0) words regions d) h s) (subst (λ x. first_reason (malloc_wants x n d) ≡ None) h e))
+
+pub plain_mallocs_take : PlainMallocsTake
+plain_mallocs_take words found k c p n f u e h m r =
+    let a = asks words k c f u in
+    let is = plan_is found k c p u e ∙ ap (λ call. committed c (plan_meant found c p k call)) m in
+    subst (λ (x : KernelState). free_count x.free + plain_need n (draft_of k p) ≡ free_count k.free) (sym is)
+    (plain_takes k.config.heap k.config.batch words k.regions n (draft_of k p) h (settled words k c p (λ x y. 0) a e) (subst (λ call. refusal_of call p k ≡ None) m r))
+
+plain_moves : (kind : HeapKind) (batch : ℕ) (words : List ℕ) (regions : Regions) (terms : Terms) (pointer n : ℕ) (found : Found) (old : Block) (d : Draft) → kind ≡ Plain → Settled kind batch (λ x y. 0) words regions d
+    → block_of_user d.space.heap.held pointer ≡ Some old → first_reason (realloc_wants kind pointer n d) ≡ None
+    → free_count (realloc_by kind terms pointer n found d).draft.free + (if is_room (room_of n) old.room then 0 else plain_need n d) ≡ free_count d.free
+plain_moves kind batch words regions terms pointer n found old d h s is e =
+    subst (λ x. free_count (realloc_by x terms pointer n found d).draft.free + (if is_room (room_of n) old.room then 0 else plain_need n d) ≡ free_count d.free) (sym h)
+    (plain_realloc_takes batch (λ x y. 0) words regions terms.harts pointer n found.second old d (subst (λ x. Settled x batch (λ a b. 0) words regions d) h s) is
+    (subst (λ o. first_reason (block_wants o n d) ≡ None) is (subst (λ x. first_reason (realloc_wants x pointer n d) ≡ None) h e)))
+
+pub plain_reallocs_take : PlainReallocsTake
+plain_reallocs_take words found k c p pointer n old f u e h m b r =
+    let a = asks words k c f u in
+    let is = plan_is found k c p u e ∙ ap (λ call. committed c (plan_meant found c p k call)) m in
+    subst (λ (x : KernelState). free_count x.free + (if is_room (room_of n) old.room then 0 else plain_need n (draft_of k p)) ≡ free_count k.free) (sym is)
+    (plain_moves k.config.heap k.config.batch words k.regions (terms_of k) pointer n found old (draft_of k p) h (settled words k c p (λ x y. 0) a e) b (subst (λ call. refusal_of call p k ≡ None) m r))
+
+pub forks_take : ForksTake
+forks_take words found k c p f u e m r =
+    let none = subst (λ call. refusal_of call p k ≡ None) m r in
+    let is = plan_is found k c p u e ∙ ap (λ call. committed c (plan_meant found c p k call)) m ∙ ap (λ x. committed c (planned_unless x k (fork_done c p k))) none in
+    let n = none_of (is_none (idle_hart k.records)) (nat_le k.config.processes (length k.processes)) answers.NoHart answers.NoProcess (fork_reasons p.space k.free) none in
+    subst (λ (x : KernelState). free_count x.free + length (private_frames p.space (length k.free)) ≡ free_count k.free) (sym is)
+    (fork_takes p.space k.free n.2)
 
 pub shares_take : SharesTake
 shares_take words found k c p n f u e m r =

@@ -1,7 +1,7 @@
 -- What follows of a kernel that fits, at every moment.
-use Rattle.std.specs.Prelude.{ℕ, ◌+◌, ◌*◌, ◌/◌, ◌≡◌, ◌≢◌, ◌<◌, ◌≤◌, true, Some, None, is_some, option_map, List, [], length, sum_by}
+use Rattle.std.specs.Prelude.{ℕ, ◌+◌, ◌-◌, ◌*◌, ◌/◌, ◌≡◌, ◌≢◌, ◌<◌, ◌≤◌, true, Some, None, is_some, option_map, List, [], length, sum_by, if◌then◌else◌}
 use Rattle.osc_word.specs.declared.settings.Config.{Config}
-use Rattle.osc_word.specs.declared.settings.HeapKind.TheVariants.{Oscar}
+use Rattle.osc_word.specs.declared.settings.HeapKind.TheVariants.{Oscar, Plain}
 use Rattle.osc_word.specs.declared.calls.Call.{Call}
 use Rattle.osc_word.specs.declared.calls.Call.TheVariants as calls
 use Rattle.osc_word.specs.AddressMap.{is_shadow}
@@ -9,17 +9,20 @@ use Rattle.osc_sv39.specs.declared.entries.Access.{Access}
 use Rattle.osc_sv39.specs.Walk.{walk, frame_allowed}
 use Rattle.osc_class.specs.Rooms.{room_of, shadow_pages}
 use Rattle.osc_slot.specs.declared.Block.{Block}
-use Rattle.osc_slot.specs.Slots.{is_held}
-use Rattle.osc_slot.specs.Heap.{frame_of, free_count}
+use Rattle.osc_slot.specs.Slots.{is_held, is_room}
+use Rattle.osc_slot.specs.Heap.{frame_of, free_count, next_block, block_of_user}
 use Rattle.osc_paging.specs.JobWords.{words_after}
 use Rattle.osc_paging.specs.KeptTables.{levels_of, root_of, mapping_at, mapping_of, need}
 use Rattle.osc_space.specs.Objects.{next_page, is_live_page}
-use Rattle.osc_space.specs.Header.{Found, block_of}
+use Rattle.osc_space.specs.Header.{Found, block_of, mapped_word, header_at}
+use Rattle.osc_space.specs.BlockWords.{block_word}
+use Rattle.osc_space.specs.declared.HeaderLook.TheVariants.{Words}
 use Rattle.osc_space.specs.declared.ObjectFact.{ObjectFact}
 use Rattle.osc_space.specs.LeafFlags.{read_write_at}
-use Rattle.osc_space.specs.Space.{Space}
+use Rattle.osc_space.specs.Space.{Space, Draft, Keeps}
 use Rattle.osc_space.specs.Agree.{IsLive}
 use Rattle.osc_space.specs.Malloc.{block_need}
+use Rattle.osc_space.specs.Fork.{private_frames}
 use Rattle.osc_space.specs.Share.{next_shared_page}
 use Rattle.osc_space.specs.Finish.{finished, ended}
 use Rattle.osc_parts.specs.Frames.{frames_held, Trades}
@@ -77,6 +80,21 @@ ShadowsFollow =
     → KernelFits words k → k.config.heap ≡ Oscar → process_at k pid ≡ Some p → p.status ≡ None
     → ShadowsFit p.space (finished (closing_of k.under_way pid) (at_rest p.space k.free)).space
 
+-- ---- headers
+-- The look at a live object gives the two words before its address, and through its pages these are the
+-- two header words of its block.
+pub record HeaderFits (s : Space) (o : ObjectFact) : Type 0 where
+  pub look : header_at s o.user ≡ Words (mapped_word s.tables (o.user - 16)) (mapped_word s.tables (o.user - 8))
+  pub first : mapped_word s.tables (o.user - 16) ≡ block_word s.heap.pages (block_of o) 0
+  pub second : mapped_word s.tables (o.user - 8) ≡ block_word s.heap.pages (block_of o) 8
+
+-- for each live object while its process has nothing to give back: always but between a plan and its return
+abbrev pub HeadersFollow : Type 0
+HeadersFollow =
+    (words : List ℕ) (k : KernelState) (pid object : ℕ) (p : Process) (o : ObjectFact)
+    → KernelFits words k → k.config.heap ≡ Oscar → closing_of k.under_way pid ≡ Keeps → process_at k pid ≡ Some p → p.status ≡ None
+    → IsLive p.space object o → HeaderFits p.space o
+
 -- ---- frames
 -- no frame that one process holds alone is another's, also in the middle of a fork
 abbrev pub ProcessesApart : Type 0
@@ -125,6 +143,34 @@ MallocsTake =
     → free_count (plan found k).kernel.free
     + (block_need (draft_of k p) (room_of n) + need p.space.tables (next_page p.space.objects) (shadow_pages (room_of n)))
     ≡ free_count k.free
+
+-- under the plain heap it takes those of the pages that hold no block yet and of the tables over them
+abbrev pub plain_need : ℕ → Draft → ℕ
+plain_need n d =
+    block_need d (room_of n) + need d.space.tables ((next_block d.space.heap (room_of n)).start / 4096) (block_need d (room_of n))
+
+abbrev pub PlainMallocsTake : Type 0
+PlainMallocsTake =
+    (words : List ℕ) (found : Found) (k : KernelState) (c : Calling) (p : Process) (n : ℕ)
+    → KernelFits words k → k.under_way ≡ Waiting c → process_at k c.pid ≡ Some p → k.config.heap ≡ Plain
+    → meant c.call ≡ calls.Malloc n → refusal c p k ≡ None
+    → free_count (plan found k).kernel.free + plain_need n (draft_of k p) ≡ free_count k.free
+
+-- and a realloc of a held block takes none where the block stays, and else those of a malloc
+abbrev pub PlainReallocsTake : Type 0
+PlainReallocsTake =
+    (words : List ℕ) (found : Found) (k : KernelState) (c : Calling) (p : Process) (pointer n : ℕ) (old : Block)
+    → KernelFits words k → k.under_way ≡ Waiting c → process_at k c.pid ≡ Some p → k.config.heap ≡ Plain
+    → meant c.call ≡ calls.Realloc pointer n → block_of_user p.space.heap.held pointer ≡ Some old → refusal c p k ≡ None
+    → free_count (plan found k).kernel.free + (if is_room (room_of n) old.room then 0 else plain_need n (draft_of k p))
+    ≡ free_count k.free
+
+-- a fork that is not refused takes a frame for each private frame of its process
+abbrev pub ForksTake : Type 0
+ForksTake =
+    (words : List ℕ) (found : Found) (k : KernelState) (c : Calling) (p : Process)
+    → KernelFits words k → k.under_way ≡ Waiting c → process_at k c.pid ≡ Some p → meant c.call ≡ calls.Fork → refusal c p k ≡ None
+    → free_count (plan found k).kernel.free + length (private_frames p.space (length k.free)) ≡ free_count k.free
 
 -- a share that is not refused takes the frames of its pages and of the tables that are missing
 abbrev pub SharesTake : Type 0

@@ -3,7 +3,7 @@
 
 ghost use Rattle.osc_settled.specs.KeepLaws.{JobsKeep, OutcomesKeep, PlansKeep, BeginsKeep, FinishKeeps};
 ghost use Rattle.osc_settled.specs.StartLaws.{StartsFit, ImagesStart};
-ghost use Rattle.osc_settled.specs.FollowLaws.{WalksFollow, PartsHold, ShadowsFollow, ProcessesApart, FramesAddUp, RefusedKeep, JobsHaveRoom, MallocsTake, SharesTake, FinishGives, EndsGive};
+ghost use Rattle.osc_settled.specs.FollowLaws.{WalksFollow, PartsHold, ShadowsFollow, HeadersFollow, ProcessesApart, FramesAddUp, RefusedKeep, JobsHaveRoom, MallocsTake, PlainMallocsTake, PlainReallocsTake, ForksTake, SharesTake, FinishGives, EndsGive};
 
 /// A job that is done keeps what holds of the kernel, with the words that it makes.
 pub fn jobs_keep()
@@ -46,6 +46,11 @@ pub fn shadows_follow()
     ensures { ShadowsFollow }
 {}
 
+/// The header of a live object is read where its block has it, while its process has nothing to give back.
+pub fn headers_follow()
+    ensures { HeadersFollow }
+{}
+
 /// No frame that one process holds alone is another's, also in the middle of a fork.
 pub fn processes_apart()
     ensures { ProcessesApart }
@@ -66,9 +71,13 @@ pub fn jobs_have_room()
     ensures { JobsHaveRoom }
 {}
 
-/// A malloc and a share that are not refused take exactly the frames that they need.
+/// A malloc under either heap, a realloc under the plain one, a fork and a share that are not refused
+/// take exactly the frames that they need.
 pub fn plans_take_need()
     ensures malloc { MallocsTake }
+    ensures plain_malloc { PlainMallocsTake }
+    ensures plain_realloc { PlainReallocsTake }
+    ensures fork { ForksTake }
     ensures share { SharesTake }
 {}
 
