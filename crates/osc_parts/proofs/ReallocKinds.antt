@@ -21,11 +21,11 @@ use Rattle.osc_paging.specs.KeptTables.{mapping_at, need}
 use Rattle.osc_space.specs.declared.ObjectFact.{ObjectFact}
 use Rattle.osc_space.specs.LeafFlags.{read_write_at}
 use Rattle.osc_space.specs.Objects.{Seen, mark, next_page, is_live, has_page, is_live_page, kill, killed, fact, facts, granted_at, object_at}
-use Rattle.osc_space.specs.Header.{object_reasons, block_of}
+use Rattle.osc_space.specs.Header.{Found, object_reasons, block_of}
 use Rattle.osc_space.specs.Space.{Space, Draft, Terms, GivesBack, Reason, first_reason, unless}
 use Rattle.osc_space.specs.BlockWords.{block_mappings, frame_at, zero_block, header_jobs, copy_jobs, trim_jobs}
 use Rattle.osc_space.specs.Share.{Regions}
-use Rattle.osc_space.specs.Malloc.{malloc_in, block_need}
+use Rattle.osc_space.specs.Malloc.{malloc_in, memory_reasons, block_need}
 use Rattle.osc_space.specs.Free.{let_wait, waiting_blocks}
 use Rattle.osc_space.specs.Realloc.{stays, frames_for, realloc_made, realloc_reasons, realloc_seen, realloc_plan}
 use Rattle.osc_space.specs.Agree.{IsLive, IsKept, IsBlockOf, ObjectsAgree}
@@ -34,7 +34,7 @@ use Rattle.osc_space.proofs.ObjectLawProofs.{pages_are_granted_once, looks_find_
 use Rattle.osc_parts.specs.Settled.{tables_of, Settled}
 use Rattle.osc_parts.specs.PlanFits.{PlanFits}
 use Rattle.osc_parts.specs.FreeLaws.{HasTerms}
-use Rattle.osc_parts.specs.ReallocLaws.{ReallocsFit}
+use Rattle.osc_parts.specs.ReallocLaws.{ReallocsFit, ReallocsTakeNeed}
 use Rattle.osc_parts.proofs.Lists.{grown, get_append}
 use Rattle.osc_parts.proofs.Killing.{killed_at, killed_here, killed_other, kill_own, one_owner}
 use Rattle.osc_parts.proofs.Trading.{trades_none}
@@ -48,7 +48,7 @@ use Rattle.osc_parts.proofs.MallocParts.{Mallocs, no_want}
 use Rattle.osc_parts.proofs.MallocParts as malloc
 use Rattle.osc_parts.proofs.FreeParts.{Frees, waits_objects}
 use Rattle.osc_parts.proofs.FreeReturn.{taken_lives}
-use Rattle.osc_parts.proofs.ReallocParts.{Reallocs, after, died, is_granted, new_now, live_other, mapped_now, new_mapped, ends, last, realloc_fits}
+use Rattle.osc_parts.proofs.ReallocParts.{Reallocs, after, died, is_granted, new_now, live_other, mapped_now, new_mapped, pages_take, ends, last, realloc_fits}
 
 -- ---- reasons
 after_object : (xs ys : List Reason) → first_reason (xs ++ ys) ≡ None → (first_reason xs ≡ None) × (first_reason ys ≡ None)
@@ -260,6 +260,12 @@ module _ (batch : ℕ) (entries : ℕ → ℕ → ℕ) (words : List ℕ) (regio
           held = λ b. f.given.held b ∙ ap (λ bs. is_held placed.heap.held b && not (is_held bs b)) (sym given_is);
           stays = f.given.stays;
         }))
+
+    moved_takes : free_count (after batch entries words regions terms n d s block placed.heap placed.free jobs moves).free + (block_need d (room_of n) + need d.space.tables (next_page d.space.objects) (shadow_pages (room_of n))) ≡ free_count d.free
+    moved_takes =
+        let a = pages_take batch entries words regions terms n d s block placed.heap placed.free jobs moves in
+        let b = malloc.left batch entries words regions n d mallocs in
+        omega (arith, a, b)
 
   -- ---- the block stays
   module _ (same : room_of n ≡ room_of o.size) (needs : need d.space.tables (next_page d.space.objects) (shadow_pages (room_of n)) ≤ free_count d.free) (marked : mark d.space.objects + shadow_pages (room_of n) ≤ d.space.shadows) where
@@ -482,7 +488,23 @@ module _ (batch : ℕ) (entries : ℕ → ℕ → ℕ) (words : List ℕ) (regio
           stays = f.given.stays;
         }))
 
+    stay_takes : free_count at_end.free + (0 + need d.space.tables (next_page d.space.objects) (shadow_pages (room_of n))) ≡ free_count d.free
+    stay_takes =
+        subst (λ r. free_count at_end.free + (0 + need d.space.tables (next_page d.space.objects) (shadow_pages r)) ≡ free_count d.free) (sym same)
+        (let a = pages_take batch entries words regions terms n d s (block_of o) d.space.heap d.free trims in_place in omega (arith, a))
+
 -- ---- each realloc
+-- an object that is taken as it was found
+old_is : (batch : ℕ) (entries : ℕ → ℕ → ℕ) (words : List ℕ) (regions : Regions) (terms : Terms) (pointer : ℕ) (found : Found) (d : Draft) (s : Seen)
+    → Settled Oscar batch entries words regions d → HasTerms batch terms → object_at d.space.objects pointer ≡ Some s
+    → first_reason (object_reasons (Some s) found) ≡ None → Old batch entries words regions terms d s
+old_is batch entries words regions terms pointer found d s k t e f = record {
+  settled = k;
+  has_terms = t;
+  is_fact = ((looks_find_objects d.space.objects k.parts.agrees.heap.granted).at pointer s e).0;
+  live = taken_lives s found f;
+}
+
 pub reallocs_fit : ReallocsFit
 unfolding realloc_plan
 reallocs_fit batch entries words regions terms pointer n found d k t = seen (object_at d.space.objects pointer) refl
@@ -492,12 +514,7 @@ reallocs_fit batch entries words regions terms pointer n found d k t = seen (obj
     seen (Some s) e = go (first_reason (realloc_reasons (Some s) n found d)) refl
       where
         old : first_reason (object_reasons (Some s) found) ≡ None → Old batch entries words regions terms d s
-        old f = record {
-          settled = k;
-          has_terms = t;
-          is_fact = ((looks_find_objects d.space.objects k.parts.agrees.heap.granted).at pointer s e).0;
-          live = taken_lives s found f;
-        }
+        old = old_is batch entries words regions terms pointer found d s k t e
 
         kind : (stay : Bool) → stays s.fact n ≡ stay → (b c : Bool) → nat_lt d.space.shadows (mark d.space.objects + shadow_pages (room_of n)) ≡ b
             → nat_lt (free_count d.free) (frames_for stay n d + need d.space.tables (next_page d.space.objects) (shadow_pages (room_of n))) ≡ c
@@ -516,3 +533,32 @@ reallocs_fit batch entries words regions terms pointer n found d k t = seen (obj
             let want = no_want (nat_lt d.space.shadows (mark d.space.objects + shadow_pages (room_of n)))
             (nat_lt (free_count d.free) (frames_for (stays s.fact n) n d + need d.space.tables (next_page d.space.objects) (shadow_pages (room_of n)))) answer.NoShadow answer.NoFrames both.1 in
             kind (stays s.fact n) refl _ _ refl refl want.0 want.1 both.0
+
+pub reallocs_take_need : ReallocsTakeNeed
+unfolding realloc_plan
+reallocs_take_need batch entries words regions terms pointer n found d s k t e f =
+    ap (λ x. free_count (realloc_seen x terms n found d).draft.free + (frames_for (stays s.fact n) n d + need d.space.tables (next_page d.space.objects) (shadow_pages (room_of n)))) e
+    ∙ ap (λ r. free_count (unless r d (realloc_made (stays s.fact n) terms s n d)).draft.free + (frames_for (stays s.fact n) n d + need d.space.tables (next_page d.space.objects) (shadow_pages (room_of n)))) f
+    ∙ kind (stays s.fact n) refl _ _ refl refl want.0 want.1
+  where
+    both : (first_reason (object_reasons (Some s) found) ≡ None) × (first_reason (memory_reasons (frames_for (stays s.fact n) n d) (shadow_pages (room_of n)) d) ≡ None)
+    both = after_object (object_reasons (Some s) found) _ f
+
+    want : (nat_lt d.space.shadows (mark d.space.objects + shadow_pages (room_of n)) ≡ false) × (nat_lt (free_count d.free) (frames_for (stays s.fact n) n d + need d.space.tables (next_page d.space.objects) (shadow_pages (room_of n))) ≡ false)
+    want =
+        no_want (nat_lt d.space.shadows (mark d.space.objects + shadow_pages (room_of n)))
+        (nat_lt (free_count d.free) (frames_for (stays s.fact n) n d + need d.space.tables (next_page d.space.objects) (shadow_pages (room_of n)))) answer.NoShadow answer.NoFrames both.1
+
+    old : Old batch entries words regions terms d s
+    old = old_is batch entries words regions terms pointer found d s k t e both.0
+
+    kind : (stay : Bool) → stays s.fact n ≡ stay → (b c : Bool) → nat_lt d.space.shadows (mark d.space.objects + shadow_pages (room_of n)) ≡ b
+        → nat_lt (free_count d.free) (frames_for stay n d + need d.space.tables (next_page d.space.objects) (shadow_pages (room_of n))) ≡ c
+        → b ≡ false → c ≡ false
+        → free_count (realloc_made stay terms s n d).draft.free + (frames_for stay n d + need d.space.tables (next_page d.space.objects) (shadow_pages (room_of n))) ≡ free_count d.free
+    kind true i b c g h x y =
+        stay_takes batch entries words regions terms n d s old (same_room (room_of n) (room_of s.fact.size) i)
+        (grind (arith, nat_tests, h, y)) (grind (arith, nat_tests, g, x))
+    kind false i b c g h x y =
+        moved_takes batch entries words regions terms n d s old
+        (grind (arith, nat_tests, h, y)) (grind (arith, nat_tests, g, x))

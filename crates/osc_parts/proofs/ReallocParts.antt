@@ -1,5 +1,5 @@
 -- A realloc that is not refused: what both kinds of it have in common.
-use Rattle.std.proofs.Common.{ℕ, zero, suc, ◌+◌, ◌-◌, ◌*◌, ◌/◌, ◌≡◌, ◌<◌, ◌≤◌, nat_lt, nat_le, ◌&&◌, ◌||◌, Bool, true, false, cond, Option, Some, None, is_some, List, [], ◌∷◌, ◌++◌, length, map, slice_get, arith, refl, ap, sym, ◌∙◌, subst}
+use Rattle.std.proofs.Common.{ℕ, zero, suc, ◌+◌, ◌-◌, ◌*◌, ◌/◌, ◌^◌, ◌≡◌, ◌<◌, ◌≤◌, nat_lt, nat_le, ◌&&◌, ◌||◌, Bool, true, false, cond, Option, Some, None, is_some, List, [], ◌∷◌, ◌++◌, length, map, slice_get, arith, refl, ap, sym, ◌∙◌, subst}
 use Rattle.std.specs.List.{list_any}
 use Rattle.std.proofs.lemmas.Bool.Decides.{nat_tests}
 use Rattle.std.proofs.lemmas.List.Folds.{list_any-append}
@@ -17,13 +17,13 @@ use Rattle.osc_slot.specs.Heap.{Heap, IsHeap, free_count}
 use Rattle.osc_slot.proofs.Backing.{free_count-le}
 use Rattle.osc_slot.proofs.Bounds.{pages_positive}
 use Rattle.osc_paging.specs.declared.TableFrame.{TableFrame}
-use Rattle.osc_paging.specs.KeptTables.{mapping_at, root_of, need, need_below, missing, pieces_over}
+use Rattle.osc_paging.specs.KeptTables.{mapping_at, root_of, levels_of, need, need_below, missing, pieces_over}
 use Rattle.osc_paging.specs.KeptTables.{frame_of as table_over}
 use Rattle.osc_paging.specs.TableChanges.{map_pages}
 use Rattle.osc_paging.specs.TableLaws.{MapsPages}
 use Rattle.osc_paging.specs.Agree.{AgreesAfter}
 use Rattle.osc_paging.specs.CopyLaws.{IsNoTable, KeepsTaken}
-use Rattle.osc_paging.proofs.TableLawProofs.{mappings_map_pages, tables_stand_above}
+use Rattle.osc_paging.proofs.TableLawProofs.{mappings_map_pages, mappings_take_need, tables_stand_above}
 use Rattle.osc_paging.proofs.Elsewhere.{taking_keeps}
 use Rattle.osc_paging.proofs.Others.{work_elsewhere_keeps}
 use Rattle.osc_space.specs.declared.ObjectFact.{ObjectFact}
@@ -286,16 +286,34 @@ module _ (batch : ℕ) (entries : ℕ → ℕ → ℕ) (words : List ℕ) (regio
   has_root : is_some (root_of replaced.space.tables) ≡ true
   has_root = ap (λ l. is_some (table_over replaced.space.tables.tables l 0)) (does.shape.top ∙ shape.shape.top) ∙ root_at d.space.tables.top m.settled.parts.levels refl
 
-  maps : MapsPages first mappings (tables_of filled) (map_pages first mappings (tables_of filled))
-  maps =
-      let r = some_root (root_of replaced.space.tables) has_root in
-      mappings_map_pages first r.0 mappings (tables_of filled) r.1
-      (let a = m.marked in
+  within_tables : first + length mappings ≤ 512 ^ levels_of replaced.space.tables
+  within_tables =
+      let a = m.marked in
       let b = m.settled.parts.shadows in
       let c = high_enough replaced.space.tables.top (let x = m.settled.parts.levels in let y = does.shape.top in let z = shape.shape.top in omega (arith, x, y, z)) in
       let e = size in
-      omega (arith, a, b, c, e))
-      (let a = m.needs in let e = need_stays in let f = ap (λ x. free_count x) replaced_free in omega (arith, a, e, f))
+      omega (arith, a, b, c, e)
+
+  as_free : free_count replaced.free ≡ free_count free
+  as_free = ap (λ x. free_count x) replaced_free
+
+  enough : need replaced.space.tables first (length mappings) ≤ free_count replaced.free
+  enough = let a = m.needs in let e = need_stays in let f = as_free in omega (arith, a, e, f)
+
+  maps : MapsPages first mappings (tables_of filled) (map_pages first mappings (tables_of filled))
+  maps =
+      let r = some_root (root_of replaced.space.tables) has_root in
+      mappings_map_pages first r.0 mappings (tables_of filled) r.1 within_tables enough
+
+  -- the flush frees no frame, and those of the leaf tables that it gives up stay aside: the new pages
+  -- alone take frames
+  pub pages_take : free_count after.free + need d.space.tables first (shadow_pages block.room) ≡ free_count free
+  pages_take =
+      let r = some_root (root_of replaced.space.tables) has_root in
+      let t = mappings_take_need first r.0 mappings (tables_of filled) r.1 within_tables enough in
+      let e = need_stays in
+      let f = as_free in
+      omega (arith, t, e, f)
 
   pub mapped_now : (q : ℕ) → mapping_at after.space.tables.pages q ≡ cond (is_new q) (slice_get mappings (q - first)) (cond (has_page q o) None (mapping_at d.space.tables.pages q))
   mapped_now q =

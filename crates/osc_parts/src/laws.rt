@@ -4,7 +4,7 @@
 ghost use Rattle.osc_parts.specs.OpenLaws.{OpeningFits};
 ghost use Rattle.osc_parts.specs.MallocLaws.{MallocsFit, MallocsTakeNeed, MallocsGiveNothing};
 ghost use Rattle.osc_parts.specs.FreeLaws.{FreesFit};
-ghost use Rattle.osc_parts.specs.ReallocLaws.{ReallocsFit};
+ghost use Rattle.osc_parts.specs.ReallocLaws.{ReallocsFit, ReallocsTakeNeed};
 ghost use Rattle.osc_parts.specs.PlainLaws.{PlainMallocsFit, PlainFreesFit, PlainReallocsFit};
 ghost use Rattle.osc_parts.specs.OthersFit.{PlansKeepOthers};
 ghost use Rattle.osc_parts.specs.Returning.{PlansReturn, JobsLeave, ReturnsSettle, ReturnsKeepOthers};
@@ -34,9 +34,11 @@ pub fn free_fits()
 {}
 
 /// A realloc, whether its block stays or moves or it is refused, leaves each frame taken until it
-/// returns, and each block held that it gives back; when it returns the parts fit again.
+/// returns, and each block held that it gives back; when it returns the parts fit again. Where it is
+/// not refused, it takes exactly the frames that its new block, if it moves, and its tables need.
 pub fn realloc_fits()
-    ensures { ReallocsFit }
+    ensures fits { ReallocsFit }
+    ensures need { ReallocsTakeNeed }
 {}
 
 /// The plans of the plain heap do the same, refused ones too: no frame is free before the call has

@@ -17,27 +17,30 @@ use Rattle.osc_slot.specs.declared.Block.{Block}
 use Rattle.osc_slot.specs.Slots.{is_room}
 use Rattle.osc_slot.specs.Heap.{free_count, block_of_user}
 use Rattle.osc_paging.specs.KeptTables.{KeptTables, need}
-use Rattle.osc_space.specs.Space.{Draft, Outcome, Terms, first_reason}
-use Rattle.osc_space.specs.Objects.{next_page}
-use Rattle.osc_space.specs.Header.{Found}
-use Rattle.osc_space.specs.Malloc.{block_need}
+use Rattle.osc_space.specs.Space.{Draft, Outcome, Terms, Reason, first_reason}
+use Rattle.osc_space.specs.Objects.{Seen, next_page, object_at}
+use Rattle.osc_space.specs.Header.{Found, object_reasons}
+use Rattle.osc_space.specs.Malloc.{memory_reasons, block_need}
+use Rattle.osc_space.specs.Realloc.{stays, frames_for}
 use Rattle.osc_space.specs.Share.{Regions, next_shared_page, share_plan}
 use Rattle.osc_space.specs.Fork.{private_frames, fork_plan, fork_reasons}
 use Rattle.osc_parts.specs.Settled.{Settled}
 use Rattle.osc_parts.specs.PlanFits.{PlanFits}
+use Rattle.osc_parts.specs.FreeLaws.{HasTerms}
 use Rattle.osc_parts.proofs.MallocParts.{mallocs_take_need}
+use Rattle.osc_parts.proofs.ReallocKinds.{reallocs_take_need}
 use Rattle.osc_parts.proofs.ShareParts.{shares_fit}
 use Rattle.osc_parts.proofs.ForkParts.{forks_fit}
 use Rattle.osc_calls.specs.Kernel.{KernelState, Process, Calling, Waiting, process_at, is_last, idle_hart}
 use Rattle.osc_calls.specs.Requests.{meant}
-use Rattle.osc_calls.specs.Refusals.{draft_of, sharing_of, refusal_of, malloc_wants, realloc_wants, block_wants}
+use Rattle.osc_calls.specs.Refusals.{draft_of, sharing_of, refusal_of, malloc_wants, realloc_wants, object_wants, block_wants}
 use Rattle.osc_calls.specs.Planned.{Planned, planned_unless}
 use Rattle.osc_calls.specs.HeapPlans.{terms_of, malloc_by, free_of, realloc_by}
 use Rattle.osc_calls.specs.WritePlan.{write_count, load_frame, first_unreadable, out_job, word_job, out_jobs, write_by}
 use Rattle.osc_calls.specs.ProcessPlans.{new_hart, value_left, done_by, fork_done, spawn_done, share_done}
 use Rattle.osc_calls.specs.Plan.{plan_meant, plan_of, committed, plan_by, plan_waiting, plan}
 use Rattle.osc_settled.specs.Records.{is_living}
-use Rattle.osc_settled.specs.FollowLaws.{most_jobs, JobsHaveRoom, plain_need, MallocsTake, PlainMallocsTake, PlainReallocsTake, ForksTake, SharesTake}
+use Rattle.osc_settled.specs.FollowLaws.{most_jobs, JobsHaveRoom, plain_need, MallocsTake, ReallocsTake, PlainMallocsTake, PlainReallocsTake, ForksTake, SharesTake}
 use Rattle.osc_settled.proofs.Outcomes.{Asks, asks, caller_lives}
 use Rattle.osc_settled.proofs.Answering.{settled, has_terms, malloc_fits, null_fits, realloc_fits}
 use Rattle.osc_settled.proofs.Forking.{none_of}
@@ -159,6 +162,34 @@ mallocs_take words found k c p n f u e h m r =
     let is = plan_is found k c p u e ∙ ap (λ call. committed c (plan_meant found c p k call)) m in
     subst (λ (x : KernelState). free_count x.free + (block_need (draft_of k p) (room_of n) + need p.space.tables (next_page p.space.objects) (shadow_pages (room_of n))) ≡ free_count k.free) (sym is)
     (oscar_takes k.config.heap k.config.batch words k.regions n (draft_of k p) h (settled words k c p (λ x y. 0) a e) (subst (λ call. refusal_of call p k ≡ None) m r))
+
+-- neither list has a reason that holds
+no_reason : (xs ys : List Reason) → first_reason xs ≡ None → first_reason ys ≡ None → first_reason (xs ++ ys) ≡ None
+no_reason [] ys e f = f
+no_reason (x ∷ xs) ys e f = go x.holds refl (λ rest. no_reason xs ys rest f)
+  where
+    go : (b : Bool) → x.holds ≡ b → (first_reason xs ≡ None → first_reason (xs ++ ys) ≡ None) → first_reason (x ∷ (xs ++ ys)) ≡ None
+    go true d later = absurd (let z : ⊥ = grind (arith, e, d) in z)
+    go false d later =
+        let rest : first_reason xs ≡ None = grind (arith, e, d) in
+        let all = later rest in
+        grind (arith, all, d)
+
+oscar_moves : (kind : HeapKind) (batch : ℕ) (words : List ℕ) (regions : Regions) (terms : Terms) (pointer n : ℕ) (found : Found) (s : Seen) (d : Draft) → kind ≡ Oscar → Settled kind batch (λ x y. 0) words regions d → HasTerms batch terms
+    → object_at d.space.objects pointer ≡ Some s → first_reason (object_reasons (Some s) found) ≡ None → first_reason (realloc_wants kind pointer n d) ≡ None
+    → free_count (realloc_by kind terms pointer n found d).draft.free + (frames_for (stays s.fact n) n d + need d.space.tables (next_page d.space.objects) (shadow_pages (room_of n))) ≡ free_count d.free
+oscar_moves kind batch words regions terms pointer n found s d h k t is o e =
+    let wants = subst (λ x. first_reason (object_wants x n d) ≡ None) is (subst (λ x. first_reason (realloc_wants x pointer n d) ≡ None) h e) in
+    subst (λ x. free_count (realloc_by x terms pointer n found d).draft.free + (frames_for (stays s.fact n) n d + need d.space.tables (next_page d.space.objects) (shadow_pages (room_of n))) ≡ free_count d.free) (sym h)
+    (reallocs_take_need batch (λ x y. 0) words regions terms pointer n found d s (subst (λ x. Settled x batch (λ a b. 0) words regions d) h k) t is
+    (no_reason (object_reasons (Some s) found) (memory_reasons (frames_for (stays s.fact n) n d) (shadow_pages (room_of n)) d) o wants))
+
+pub reallocs_take : ReallocsTake
+reallocs_take words found k c p pointer n s f u e h m at o r =
+    let a = asks words k c f u in
+    let is = plan_is found k c p u e ∙ ap (λ call. committed c (plan_meant found c p k call)) m in
+    subst (λ (x : KernelState). free_count x.free + (frames_for (stays s.fact n) n (draft_of k p) + need p.space.tables (next_page p.space.objects) (shadow_pages (room_of n))) ≡ free_count k.free) (sym is)
+    (oscar_moves k.config.heap k.config.batch words k.regions (terms_of k) pointer n found s (draft_of k p) h (settled words k c p (λ x y. 0) a e) (has_terms words k c a) at o (subst (λ call. refusal_of call p k ≡ None) m r))
 
 -- under the plain heap
 plain_takes : (kind : HeapKind) (batch : ℕ) (words : List ℕ) (regions : Regions) (n : ℕ) (d : Draft) → kind ≡ Plain → Settled kind batch (λ x y. 0) words regions d

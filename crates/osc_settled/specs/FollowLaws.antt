@@ -13,15 +13,16 @@ use Rattle.osc_slot.specs.Slots.{is_held, is_room}
 use Rattle.osc_slot.specs.Heap.{frame_of, free_count, next_block, block_of_user}
 use Rattle.osc_paging.specs.JobWords.{words_after}
 use Rattle.osc_paging.specs.KeptTables.{levels_of, root_of, mapping_at, mapping_of, need}
-use Rattle.osc_space.specs.Objects.{next_page, is_live_page}
-use Rattle.osc_space.specs.Header.{Found, block_of, mapped_word, header_at}
+use Rattle.osc_space.specs.Objects.{Seen, next_page, is_live_page, object_at}
+use Rattle.osc_space.specs.Header.{Found, object_reasons, block_of, mapped_word, header_at}
 use Rattle.osc_space.specs.BlockWords.{block_word}
 use Rattle.osc_space.specs.declared.HeaderLook.TheVariants.{Words}
 use Rattle.osc_space.specs.declared.ObjectFact.{ObjectFact}
 use Rattle.osc_space.specs.LeafFlags.{read_write_at}
-use Rattle.osc_space.specs.Space.{Space, Draft, Keeps}
+use Rattle.osc_space.specs.Space.{Space, Draft, Keeps, first_reason}
 use Rattle.osc_space.specs.Agree.{IsLive}
 use Rattle.osc_space.specs.Malloc.{block_need}
+use Rattle.osc_space.specs.Realloc.{stays, frames_for}
 use Rattle.osc_space.specs.Fork.{private_frames}
 use Rattle.osc_space.specs.Share.{next_shared_page}
 use Rattle.osc_space.specs.Finish.{finished, ended}
@@ -144,7 +145,19 @@ MallocsTake =
     + (block_need (draft_of k p) (room_of n) + need p.space.tables (next_page p.space.objects) (shadow_pages (room_of n)))
     ≡ free_count k.free
 
--- under the plain heap it takes those of the pages that hold no block yet and of the tables over them
+-- a realloc under the heap with shadows, of an object whose header is as it was kept, takes the frames of
+-- the new block where the old one does not stay, and those of the tables that the new pages lack
+abbrev pub ReallocsTake : Type 0
+ReallocsTake =
+    (words : List ℕ) (found : Found) (k : KernelState) (c : Calling) (p : Process) (pointer n : ℕ) (s : Seen)
+    → KernelFits words k → k.under_way ≡ Waiting c → process_at k c.pid ≡ Some p → k.config.heap ≡ Oscar
+    → meant c.call ≡ calls.Realloc pointer n → object_at p.space.objects pointer ≡ Some s
+    → first_reason (object_reasons (Some s) found) ≡ None → refusal c p k ≡ None
+    → free_count (plan found k).kernel.free
+    + (frames_for (stays s.fact n) n (draft_of k p) + need p.space.tables (next_page p.space.objects) (shadow_pages (room_of n)))
+    ≡ free_count k.free
+
+-- under the plain heap a malloc takes those of the pages that hold no block yet and of the tables over them
 abbrev pub plain_need : ℕ → Draft → ℕ
 plain_need n d =
     block_need d (room_of n) + need d.space.tables ((next_block d.space.heap (room_of n)).start / 4096) (block_need d (room_of n))

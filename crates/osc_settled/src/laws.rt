@@ -3,7 +3,7 @@
 
 ghost use Rattle.osc_settled.specs.KeepLaws.{JobsKeep, OutcomesKeep, PlansKeep, BeginsKeep, FinishKeeps};
 ghost use Rattle.osc_settled.specs.StartLaws.{StartsFit, ImagesStart};
-ghost use Rattle.osc_settled.specs.FollowLaws.{WalksFollow, PartsHold, ShadowsFollow, HeadersFollow, ProcessesApart, FramesAddUp, RefusedKeep, JobsHaveRoom, MallocsTake, PlainMallocsTake, PlainReallocsTake, ForksTake, SharesTake, FinishGives, EndsGive};
+ghost use Rattle.osc_settled.specs.FollowLaws.{WalksFollow, PartsHold, ShadowsFollow, HeadersFollow, ProcessesApart, FramesAddUp, RefusedKeep, JobsHaveRoom, MallocsTake, ReallocsTake, PlainMallocsTake, PlainReallocsTake, ForksTake, SharesTake, FinishGives, EndsGive};
 
 /// A job that is done keeps what holds of the kernel, with the words that it makes.
 pub fn jobs_keep()
@@ -71,10 +71,11 @@ pub fn jobs_have_room()
     ensures { JobsHaveRoom }
 {}
 
-/// A malloc under either heap, a realloc under the plain one, a fork and a share that are not refused
-/// take exactly the frames that they need.
+/// A malloc and a realloc under either heap, a fork and a share that are not refused take exactly the
+/// frames that they need.
 pub fn plans_take_need()
     ensures malloc { MallocsTake }
+    ensures realloc { ReallocsTake }
     ensures plain_malloc { PlainMallocsTake }
     ensures plain_realloc { PlainReallocsTake }
     ensures fork { ForksTake }

@@ -1,9 +1,12 @@
 -- The laws, proved of the definitions.
-use Rattle.osc_settled.proofs.Taking.{mallocs_take, plain_mallocs_take, plain_reallocs_take, forks_take, shares_take}
+use Rattle.osc_settled.proofs.Taking.{mallocs_take, reallocs_take, plain_mallocs_take, plain_reallocs_take, forks_take, shares_take}
 use Rattle.osc_settled.proofs.laws.plans_take_need.Goals as goal
 
 pub returns-clause-malloc : goal.returns-clause-malloc
 returns-clause-malloc c = mallocs_take
+
+pub returns-clause-realloc : goal.returns-clause-realloc
+returns-clause-realloc c = reallocs_take
 
 pub returns-clause-plain_malloc : goal.returns-clause-plain_malloc
 returns-clause-plain_malloc c = plain_mallocs_take
