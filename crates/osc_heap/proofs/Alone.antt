@@ -1,5 +1,5 @@
 -- The pages of a held block that hold no other.
-use Rattle.std.proofs.Common.{ℕ, zero, suc, ◌≡◌, ◌<◌, ◌≤◌, ◌+◌, ◌-◌, ◌*◌, ◌/◌, ◌&&◌, ◌||◌, nat_le, nat_lt, Bool, true, false, not, List, [], ◌∷◌, is_some, length, filter, arith, refl, sym, ap, ◌∙◌, subst}
+use Rattle.std.proofs.Common.{ℕ, zero, suc, ◌≡◌, ◌<◌, ◌≤◌, ◌+◌, ◌-◌, ◌/◌, ◌&&◌, ◌||◌, nat_le, nat_lt, Bool, true, false, not, List, is_some, length, filter, arith, refl, sym, ap, ◌∙◌, subst}
 use Rattle.std.specs.Prelude.{slice_set}
 use Rattle.std.specs.List.{range_with_len}
 use Rattle.std.proofs.lemmas.Bool.Decides.{nat_tests}
@@ -11,7 +11,7 @@ use Rattle.osc_frames.specs.Words.{numbers_of}
 use Rattle.osc_slot.specs.declared.Block.{Block}
 use Rattle.osc_slot.specs.declared.HeapPage.{HeapPage}
 use Rattle.osc_slot.specs.Least.{least, any}
-use Rattle.osc_slot.specs.Areas.{first_page, area_of, slots_in, page_of, start_of, block_at_slot}
+use Rattle.osc_slot.specs.Areas.{first_page, area_of, slots_in, page_of, start_of}
 use Rattle.osc_slot.specs.Slots.{is_held, is_covered, pages_alone}
 use Rattle.osc_slot.specs.Heap.{Heap, without_block}
 use Rattle.osc_slot.proofs.Bounds.{start_page, in_area, pages_within, pages_positive}

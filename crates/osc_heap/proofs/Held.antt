@@ -1,14 +1,13 @@
 -- The pages of a table and those after it, as one list.
-use Rattle.std.proofs.Common.{ℕ, zero, suc, ◌≡◌, ◌≢◌, ◌<◌, ◌≤◌, ◌+◌, ◌-◌, ◌&&◌, ◌==◌, nat_le, nat_lt, Bool, true, false, not, cond, List, [], ◌∷◌, Option, Some, None, length, find, filter, position, get_or, map, replicate, drop, ◌++◌, slice_get, slice_index, slice_index_or, slice_set, add-one, drop-cons, drop_of_length-le, arith, refl, sym, ap, ◌∙◌, subst}
+use Rattle.std.proofs.Common.{ℕ, zero, suc, ◌≡◌, ◌<◌, ◌≤◌, ◌+◌, ◌-◌, ◌&&◌, ◌==◌, nat_le, nat_lt, Bool, true, false, cond, List, [], ◌∷◌, Option, Some, None, length, filter, position, get_or, map, replicate, drop, ◌++◌, slice_get, slice_index, slice_index_or, slice_set, add-one, drop-cons, drop_of_length-le, arith, refl, sym, ap, ◌∙◌, subst}
 use Rattle.std.proofs.lemmas.Bool.Decides.{nat_tests}
-use Rattle.std.proofs.lemmas.Grind.{common_steps}
 use Rattle.osc_slot.specs.declared.HeapPage.{HeapPage}
-use Rattle.osc_slot.specs.Ordered.{insert_by, AllAbove, IsAscending}
+use Rattle.osc_slot.specs.Ordered.{insert_by, AllAbove}
 use Rattle.std.proofs.lemmas.List.{get_or_default}
-use Rattle.osc_frames.specs.Free.{without_frame, with_frame}
+use Rattle.osc_frames.specs.Free.{without_frame}
 use Rattle.osc_slot.specs.Areas.{first_page}
 use Rattle.osc_slot.specs.Heap.{Backing, back, back_by, give_back, frame_of, frame_of_found, rename, HaveFrames, has_frame}
-use Rattle.osc_slot.proofs.InOrder.{insert-front, none_at, find_is_some, filter_same}
+use Rattle.osc_slot.proofs.InOrder.{insert-front, none_at, find_is_some}
 use Rattle.osc_heap.specs.Layout.{pages_from, renamed, in_range, out_of_range, CanGiveBack}
 
 -- a page below all pages of a list is none of them
@@ -189,11 +188,10 @@ pub above_at : (n m : ℕ) (rest : List HeapPage) → m ≤ n → AllAbove (λ (
 above_at n m rest l a = above_weaker n m rest l a
 
 -- what the code reads and writes at a page of the table
-pub read_table : (table : List (Option ℕ)) (rest : List HeapPage) (page i : ℕ) (x : Option ℕ) → AllAbove (λ (p : HeapPage). p.page) (0x1FFFFFF + length table) rest → first_page ≤ page → i ≡ page - first_page → i < length table → x ≡ slice_index_or table i x
+pub read_table : (table : List (Option ℕ)) (rest : List HeapPage) (page i : ℕ) (x : Option ℕ) → AllAbove (λ (p : HeapPage). p.page) (0x1FFFFFF + length table) rest → first_page ≤ page → i ≡ page - first_page → i < length table → x ≡ get_or table i None
     → (x ≡ frame_of (pages_from first_page table rest) page) × (x ≡ get_or table i None)
 read_table table rest page i x a f e l r =
-    let at : x ≡ get_or table i None = r ∙ get_or_default table i x None l in
-    (at ∙ sym (frame_in_table first_page page i table rest (omega arith) l (above_at (0x1FFFFFF + length table) page rest (omega arith) a)), at)
+    (r ∙ sym (frame_in_table first_page page i table rest (omega arith) l (above_at (0x1FFFFFF + length table) page rest (omega arith) a)), r)
 
 set_same : (table : List (Option ℕ)) (i : ℕ) (x : Option ℕ) → get_or table i None ≡ x → i < length table → slice_set table i x ≡ table
 set_same [] i x e l = refl
@@ -243,16 +241,15 @@ pub record GivesOne (first count i : ℕ) (table : List (Option ℕ)) (rest : Li
   pub stays : filter (out_of_range first count) (pages_from first_page table rest) ≡ pages_from first_page (slice_set table i None) rest
   pub same : x ≡ None → slice_set table i None ≡ table
 
-pub gives_one : (count first i : ℕ) (table : List (Option ℕ)) (rest : List HeapPage) (x : Option ℕ) → count ≡ 1 → AllAbove (λ (p : HeapPage). p.page) (0x1FFFFFF + length table) rest → first_page ≤ first → i ≡ first - first_page → i < length table → x ≡ slice_index_or table i x
+pub gives_one : (count first i : ℕ) (table : List (Option ℕ)) (rest : List HeapPage) (x : Option ℕ) → count ≡ 1 → AllAbove (λ (p : HeapPage). p.page) (0x1FFFFFF + length table) rest → first_page ≤ first → i ≡ first - first_page → i < length table → x ≡ get_or table i None
     → GivesOne first count i table rest x
 gives_one count first i table rest x one a f e l r =
     let above = above_at (0x1FFFFFF + length table) first rest (omega arith) a in
-    let at : x ≡ get_or table i None = r ∙ get_or_default table i x None l in
     let page : first ≡ first_page + i = omega arith in
     rw one (record {
-      goes = in_table_goes first_page first i table rest page l above ∙ ap (page_with first) (sym at);
+      goes = in_table_goes first_page first i table rest page l above ∙ ap (page_with first) (sym r);
       stays = in_table_stays first_page first i table rest page l above;
-      same = λ none. set_same table i None (sym at ∙ none) l;
+      same = λ none. set_same table i None (sym r ∙ none) l;
     })
 
 pub can_give_one : (free : List Bool) (page frame : ℕ) → CanGiveBack free (page_with page (Some frame)) → slice_get free frame ≡ Some false

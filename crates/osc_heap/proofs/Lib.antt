@@ -9,5 +9,9 @@ pub mod Whole
 pub mod Tells
 pub mod Held
 pub mod Places
+pub mod Ranges
 pub mod SlotBits
 pub mod Alone
+pub mod Filling
+pub mod Tables
+pub mod Kept

@@ -1,16 +1,13 @@
 -- The place of a page among ascending pages.
-use Rattle.std.proofs.Common.{ℕ, zero, suc, ◌≡◌, ◌≢◌, ◌<◌, ◌≤◌, ◌+◌, ◌-◌, ◌&&◌, ◌==◌, nat_le, nat_lt, Bool, true, false, not, cond, List, [], ◌∷◌, Option, Some, None, is_some, length, position, get_or, arith, refl, sym, ap, ◌∙◌}
+use Rattle.std.proofs.Common.{ℕ, zero, suc, ◌≡◌, ◌≢◌, ◌<◌, ◌≤◌, ◌+◌, ◌==◌, nat_le, Bool, true, false, not, cond, List, [], ◌∷◌, Option, Some, None, length, get_or, arith, refl, sym, ap}
 use Rattle.std.specs.List.{position_or_len}
 use Rattle.std.proofs.lemmas.Bool.Decides.{nat_tests}
 use Rattle.std.proofs.lemmas.List.Sums.{position_or_len_is, prefix_len-le-length}
 use Rattle.osc_slot.specs.declared.HeapPage.{HeapPage}
-use Rattle.osc_slot.specs.Ordered.{insert_by, AllAbove, IsAscending}
-use Rattle.osc_slot.specs.Heap.{Backing, back, back_by, frame_of, frame_of_found}
-use Rattle.osc_frames.specs.Free.{without_frame}
+use Rattle.osc_slot.specs.Ordered.{AllAbove, IsAscending}
+use Rattle.osc_slot.specs.Heap.{frame_of, frame_of_found}
 use Rattle.osc_heap.specs.Layout.{pages_from}
-use Rattle.osc_heap.proofs.Scans.{back_more}
-use Rattle.osc_slot.proofs.InOrder.{none_at, find_is_some, ascending-insert, find-insert, has_number}
-use Rattle.osc_slot.proofs.Backing.{has_page}
+use Rattle.osc_slot.proofs.InOrder.{none_at, find_is_some}
 
 above_at_place : (n k : ℕ) (d : HeapPage) (pages : List HeapPage) → AllAbove (λ (p : HeapPage). p.page) n pages → k < length pages → n < (get_or pages k d).page
 unfolding AllAbove
@@ -77,44 +74,6 @@ missing_place page d (p ∷ pages) a e = go (nat_le page p.page) refl (λ f. mis
         let other : (p.page == page) ≡ false = grind (arith, nat_tests, is) in
         let n : 1 + place page pages ≡ suc (place page pages) = omega arith in
         rw other (later (λ m. (rw n at f) (omega arith)))
-
--- one page more
-absent_page : (page : ℕ) (pages : List HeapPage) → frame_of pages page ≡ None → has_number (λ (p : HeapPage). p.page) page pages ≡ false
-absent_page page pages e = has_page pages page ∙ ap (λ (x : Option ℕ). is_some x) e
-
-pub ascending_put : (new : HeapPage) (pages : List HeapPage) → IsAscending (λ (p : HeapPage). p.page) pages → frame_of pages new.page ≡ None → IsAscending (λ (p : HeapPage). p.page) (insert_by (λ (p : HeapPage). p.page) new pages)
-ascending_put new pages a e = ascending-insert (λ (p : HeapPage). p.page) new pages (absent_page new.page pages e) a
-
-pub frame_put : (new : HeapPage) (pages : List HeapPage) (q : ℕ) → new.page < q → frame_of (insert_by (λ (p : HeapPage). p.page) new pages) q ≡ frame_of pages q
-frame_put new pages q l =
-    let other : (new.page == q) ≡ false = grind (arith, nat_tests) in
-    ap frame_of_found (find-insert (λ (p : HeapPage). p.page) q new pages ∙ rw other refl)
-
-abbrev pub put_by : ℕ → Option ℕ → List HeapPage → List HeapPage
-put_by page None pages = pages
-put_by page (Some frame) pages = insert_by (λ (p : HeapPage). p.page) (record { page = page; frame = frame }) pages
-
--- what is true after one page more was backed
-pub record Backed (page end : ℕ) (b : Backing) (now : List HeapPage) (left : List Bool) : Type 0 where
-  pub rest : b ≡ back (end - (page + 1)) (page + 1) (record { pages = now; free = left })
-  pub ascending : IsAscending (λ (p : HeapPage). p.page) now
-  pub fresh : (q : ℕ) → page + 1 ≤ q → q < end → frame_of now q ≡ None
-
-pub backed_one : (page end : ℕ) (b : Backing) (pages now : List HeapPage) (free left : List Bool) (x : Option ℕ) → page < end → b ≡ back (end - page) page (record { pages = pages; free = free }) → IsAscending (λ (p : HeapPage). p.page) pages → ((q : ℕ) → page ≤ q → q < end → frame_of pages q ≡ None)
-    → x ≡ position (λ (f : Bool). f) free → left ≡ without_frame free x → now ≡ put_by page x pages → Backed page end b now left
-backed_one page end b pages now free left x l rest a f is gone put = go x (sym is) gone put
-  where
-    go : (y : Option ℕ) → position (λ (f : Bool). f) free ≡ y → left ≡ without_frame free y → now ≡ put_by page y pages → Backed page end b now left
-    go None e g n = rw (g, n) (record {
-      rest = rest ∙ back_more page end pages free l ∙ ap (λ x. back (end - (page + 1)) (page + 1) (back_by page x (record { pages = pages; free = free }))) e;
-      ascending = a;
-      fresh = λ q m h. f q (omega arith) h;
-    })
-    go (Some frame) e g n = rw (g, n) (record {
-      rest = rest ∙ back_more page end pages free l ∙ ap (λ x. back (end - (page + 1)) (page + 1) (back_by page x (record { pages = pages; free = free }))) e;
-      ascending = ascending_put (record { page = page; frame = frame }) pages a (f page (omega arith) l);
-      fresh = λ q m h. frame_put (record { page = page; frame = frame }) pages q (omega arith) ∙ f q (omega arith) h;
-    })
 
 -- the pages after a table are ascending where all are
 pub rest_ascending : (page : ℕ) (table : List (Option ℕ)) (rest : List HeapPage) → IsAscending (λ (p : HeapPage). p.page) (pages_from page table rest) → IsAscending (λ (p : HeapPage). p.page) rest

@@ -1,15 +1,12 @@
 -- One more number of a range that is searched.
-use Rattle.std.proofs.Common.{ℕ, zero, suc, ◌≡◌, ◌<◌, ◌≤◌, ◌&&◌, ◌||◌, ◌+◌, ◌-◌, ◌*◌, ◌/◌, ◌==◌, nat_lt, nat_le, Bool, true, false, not, cond, List, [], ◌∷◌, Option, Some, None, length, find, filter, slice_get, slice_set, position, drop, get_or, unwrap_or, arith, refl, sym, ap, ◌∙◌, add-one, drop-cons, drop_of_length-le}
+use Rattle.std.proofs.Common.{ℕ, zero, suc, ◌≡◌, ◌<◌, ◌≤◌, ◌&&◌, ◌||◌, ◌+◌, ◌-◌, ◌*◌, ◌/◌, Bool, true, false, not, cond, List, ◌∷◌, Option, Some, None, length, slice_get, slice_set, drop, get_or, arith, refl, ap, ◌∙◌, add-one, drop-cons, drop_of_length-le}
 use Rattle.std.proofs.Math.Nat.{suc-mul, mul-le-mul_right, div-eq_of_lt-le}
 use Rattle.osc_slot.specs.Least.{least, any}
 use Rattle.osc_slot.specs.Slots.{or_else}
 use Rattle.osc_slot.proofs.Counting.{least_same}
-use Rattle.std.specs.List.{insert, position_or_len}
-use Rattle.std.proofs.lemmas.List.Sums.{prefix_len-le-length}
 use Rattle.std.proofs.lemmas.Bool.Decides.{nat_tests}
 use Rattle.osc_slot.specs.declared.HeapPage.{HeapPage}
-use Rattle.osc_slot.specs.Ordered.{insert_by}
-use Rattle.osc_slot.specs.Heap.{Backing, back, back_by, give_back, frame_of, frame_of_found}
+use Rattle.osc_slot.specs.Heap.{give_back}
 use Rattle.osc_heap.specs.Layout.{CanGiveBack, bit_at, page_held, page_beside, row_beside}
 
 pub any_more : (test : ℕ → Bool) (i end : ℕ) → i < end → any test i (end - i) ≡ (test i || any test (i + 1) (end - (i + 1)))
@@ -91,60 +88,7 @@ slot_fits page pages slots l = mul-le-mul_right slots (let n : page ≤ pages = 
 
 pub ruleset scans = (any_more, any_end, least_more, least_end, beside_more, beside_end, beside_all, page_fits, slot_fits)
 
--- one more page of a list
-pub frame_of-drop : (pages : List HeapPage) (i page : ℕ) (d : HeapPage) → i < length pages → frame_of (drop i pages) page ≡ cond ((get_or pages i d).page == page) (Some (get_or pages i d).frame) (frame_of (drop (i + 1) pages) page)
-frame_of-drop pages i page d l = rw (add-one, drop-cons pages i d) (by ((get_or pages i d).page == page))
-  where
-    by : (t : Bool) → frame_of_found (cond t (Some (get_or pages i d)) (find (λ (p : HeapPage). p.page == page) (drop (suc i) pages))) ≡ cond t (Some (get_or pages i d).frame) (frame_of (drop (suc i) pages) page)
-    by true = refl
-    by false = refl
-
-pub frame_of-end : (pages : List HeapPage) (i page : ℕ) → length pages ≤ i → frame_of (drop i pages) page ≡ None
-frame_of-end pages i page l = rw (drop_of_length-le pages l) refl
-
--- a page is put before the first that is not below it
-pub insert_at : (new : HeapPage) (pages : List HeapPage) → insert_by (λ (p : HeapPage). p.page) new pages ≡ insert pages (position_or_len (λ (p : HeapPage). nat_le new.page p.page) pages) new
-unfolding insert_by
-insert_at new [] = refl
-insert_at new (p ∷ pages) = go (nat_le new.page p.page) refl (insert_at new pages)
-  where
-    go : (t : Bool) → nat_le new.page p.page ≡ t → insert_by (λ (q : HeapPage). q.page) new pages ≡ insert pages (position_or_len (λ (q : HeapPage). nat_le new.page q.page) pages) new
-        → cond (nat_lt p.page new.page) (p ∷ insert_by (λ (q : HeapPage). q.page) new pages) (new ∷ p ∷ pages) ≡ insert (p ∷ pages) (cond (not t) (1 + position_or_len (λ (q : HeapPage). nat_le new.page q.page) pages) 0) new
-    go true e later = let f : nat_lt p.page new.page ≡ false = grind (arith, nat_tests, e) in rw f refl
-    go false e later =
-        let f : nat_lt p.page new.page ≡ true = grind (arith, nat_tests, e) in
-        let n : 1 + position_or_len (λ (q : HeapPage). nat_le new.page q.page) pages ≡ suc (position_or_len (λ (q : HeapPage). nat_le new.page q.page) pages) = omega arith in
-        rw (f, n) (ap (λ ps. p ∷ ps) later)
-
--- where a search ends
-past_all : (t : Bool) (n m : ℕ) → n ≤ m → nat_lt n m ≡ t → unwrap_or (cond t (Some n) None) m ≡ n
-past_all true n m l e = refl
-past_all false n m l e = grind (arith, nat_tests)
-
-pub insert_found : (new : HeapPage) (pages : List HeapPage) (place : Option ℕ) → place ≡ position (λ (p : HeapPage). nat_le new.page p.page) pages → insert pages (unwrap_or place (length pages)) new ≡ insert_by (λ (p : HeapPage). p.page) new pages
-insert_found new pages place e =
-    let l = prefix_len-le-length (λ (p : HeapPage). not (nat_le new.page p.page)) pages in
-    let is : unwrap_or place (length pages) ≡ position_or_len (λ (p : HeapPage). nat_le new.page p.page) pages =
-    ap (λ x. unwrap_or x (length pages)) e ∙ past_all (nat_lt (position_or_len (λ (p : HeapPage). nat_le new.page p.page) pages) (length pages)) (position_or_len (λ (p : HeapPage). nat_le new.page p.page) pages) (length pages) l refl in
-    rw is (sym (insert_at new pages))
-
--- one more page of a range
-pub back_more : (page end : ℕ) (pages : List HeapPage) (free : List Bool) → page < end
-    → back (end - page) page (record { pages = pages; free = free }) ≡ back (end - (page + 1)) (page + 1) (back_by page (position (λ (f : Bool). f) free) (record { pages = pages; free = free }))
-unfolding back
-back_more page end pages free l = let e : end - page ≡ suc (end - (page + 1)) = omega arith in rw e refl
-
-pub back_end : (page end : ℕ) (b : Backing) → end ≤ page → back (end - page) page b ≡ b
-unfolding back
-back_end page end b l = let e : end - page ≡ 0 = omega arith in rw e refl
-
--- one more page that is given back, and one that stays
-pub filter-drop : (test : HeapPage → Bool) (pages : List HeapPage) (i : ℕ) (d : HeapPage) → i < length pages → filter test (drop i pages) ≡ cond (test (get_or pages i d)) (get_or pages i d ∷ filter test (drop (i + 1) pages)) (filter test (drop (i + 1) pages))
-filter-drop test pages i d l = rw (add-one, drop-cons pages i d) refl
-
-pub filter-end : (test : HeapPage → Bool) (pages : List HeapPage) (i : ℕ) → length pages ≤ i → filter test (drop i pages) ≡ []
-filter-end test pages i l = rw (drop_of_length-le pages l) refl
-
+-- one more page that is given back
 pub give_back-drop : (pages : List HeapPage) (i : ℕ) (d : HeapPage) (free : List Bool) → i < length pages → give_back (drop i pages) free ≡ give_back (drop (i + 1) pages) (slice_set free (get_or pages i d).frame true)
 unfolding give_back
 give_back-drop pages i d free l = rw (add-one, drop-cons pages i d) refl
@@ -157,4 +101,4 @@ pub can_give-drop : (pages : List HeapPage) (i : ℕ) (d : HeapPage) (free : Lis
 unfolding CanGiveBack
 can_give-drop pages i d free l c = let e : drop i pages ≡ get_or pages i d ∷ drop (i + 1) pages = rw (add-one, drop-cons pages i d) refl in rw e at c
 
-pub ruleset page_scans = (frame_of-drop, frame_of-end, back_more, back_end, filter-drop, filter-end, give_back-drop, give_back-end, nat_tests)
+pub ruleset page_scans = (give_back-drop, give_back-end, nat_tests)

@@ -1,5 +1,5 @@
 -- Bits of shifted words, and the least of those that a word shows.
-use Rattle.std.proofs.Common.{ℕ, zero, suc, ◌≡◌, ◌<◌, ◌≤◌, ◌+◌, ◌-◌, ◌*◌, ◌/◌, ◌%◌, ◌^◌, ◌==◌, ◌&&◌, ◌||◌, nat_lt, Bool, true, false, not, cond, List, Option, Some, None, is_some, length, replicate, get_or, bit_and, bit_or, w64, ⊎_elim, min, max, arith, refl, sym, ap, ◌∙◌}
+use Rattle.std.proofs.Common.{ℕ, zero, suc, ◌≡◌, ◌<◌, ◌≤◌, ◌+◌, ◌-◌, ◌*◌, ◌/◌, ◌%◌, ◌^◌, ◌==◌, ◌&&◌, ◌||◌, nat_lt, Bool, true, false, not, cond, List, [], Some, None, is_some, length, replicate, get_or, bit_and, bit_or, w64, ⊎_elim, min, max, arith, refl, sym, ap, ◌∙◌}
 use Rattle.std.specs.Int.{bit_at, bit_not, trailing_zeros}
 use Rattle.std.proofs.lemmas.Nat.{shr-shr, pow_pos, div-add-mod'}
 use Rattle.std.proofs.lemmas.Nat.Bits.{bit_at-zero, bit_at-lt, bit_at_or, bit_at_and, bit_at_not, bit_at_above, bit_at_cat_low, bit_at_cat_high, bit_at-trailing_zeros}
@@ -151,28 +151,30 @@ any_held words slots first count fits = any_same (λ slot. get_or (numbers_of wo
 pub least_free : (words : List ℕ) (slots first count : ℕ) → first + count ≤ slots → least (λ slot. not (get_or (numbers_of words slots) slot false)) first count ≡ least (has_as words false) first count
 least_free words slots first count fits = least_same (λ slot. not (get_or (numbers_of words slots) slot false)) (has_as words false) first count (λ i l m. ap not (slot_at words slots i (omega arith)))
 
-pub all_zero : (words : List ℕ) (count slots : ℕ) → words ≡ replicate count 0 → numbers_of words slots ≡ replicate slots false
-all_zero words count slots e =
+pub no_words : (words : List ℕ) (slots : ℕ) → words ≡ [] → numbers_of words slots ≡ replicate slots false
+no_words words slots e =
     let long = length-numbers words slots in
     let same = length-replicate slots false in
     same_lists (numbers_of words slots) (replicate slots false) (long ∙ sym same) (λ k l.
     slot_at words slots k (omega arith) ∙ zero_at k ∙ sym (get_or-replicate slots k false false (omega arith)))
   where
-    word_zero : (i : ℕ) → (let none : ℕ = 0 in get_or (replicate count none) i none ≡ none)
-    word_zero i =
-        let none : ℕ = 0 in
-        let long = length-replicate count none in
-        ⊎_elim (λ l. get_or-replicate {A = ℕ} count i 0 0 l) (λ l. get_or_past {X = ℕ} (replicate count 0) i 0 (omega arith)) (cases_lt i count)
-
     zero_at : (k : ℕ) → has words k ≡ false
-    zero_at k = rw (e, word_zero (k / 64)) (let z = bit_at-zero (k % 64) in rw z refl)
+    zero_at k = rw e (let z = bit_at-zero (k % 64) in rw z refl)
+
+-- words that are the same at each place, past their ends too, show the same bits
+pub same_words : (words others : List ℕ) (slots : ℕ) → ((i : ℕ) → get_or words i 0 ≡ get_or others i 0) → numbers_of words slots ≡ numbers_of others slots
+same_words words others slots same =
+    let long = length-numbers words slots in
+    let size = length-numbers others slots in
+    same_lists (numbers_of words slots) (numbers_of others slots) (long ∙ sym size) (λ k l.
+    slot_at words slots k (omega arith) ∙ ap (λ (word : ℕ). bit_at word (k % 64) == 1) (same (k / 64)) ∙ sym (slot_at others slots k (omega arith)))
 
 -- ---- the same where the area is seen as a list
-pub within_area : (words : List ℕ) (slots n : ℕ) (row : List Bool) → numbers_of words slots ≡ row → length words ≡ slots / 64 + 1 → n ≤ length row → (n ≤ slots) × (n ≤ 64 * length words)
-within_area words slots n row view long l =
+pub within_area : (words : List ℕ) (slots n : ℕ) (row : List Bool) → numbers_of words slots ≡ row → n ≤ length row → n ≤ slots
+within_area words slots n row view l =
     let e = length-numbers words slots in
     let same : length row ≡ length (numbers_of words slots) = ap length (sym view) in
-    (omega arith, omega arith)
+    omega arith
 
 pub slot_of_area : (words : List ℕ) (slots slot : ℕ) (row : List Bool) → numbers_of words slots ≡ row → slot < slots → get_or row slot false ≡ has words slot
 slot_of_area words slots slot row view l = ap (λ (r : List Bool). get_or r slot false) (sym view) ∙ slot_at words slots slot l

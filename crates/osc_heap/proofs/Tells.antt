@@ -1,12 +1,11 @@
 -- What is told of the pages of an area, and what a change of one slot makes of it.
-use Rattle.std.proofs.Common.{ℕ, zero, suc, ◌≡◌, ◌≢◌, ◌<◌, ◌≤◌, ◌+◌, ◌-◌, ◌*◌, ◌/◌, ◌&&◌, ◌||◌, ◌==◌, nat_le, Bool, true, false, not, cond, List, [], ◌∷◌, Option, Some, None, is_some, length, map, replicate, position, get_or, slice_index_or, slice_set, set, arith, refl, sym, ap, ◌∙◌, subst}
+use Rattle.std.proofs.Common.{ℕ, zero, suc, ◌≡◌, ◌≢◌, ◌<◌, ◌≤◌, ◌+◌, ◌*◌, ◌/◌, ◌||◌, ◌==◌, nat_le, Bool, true, false, not, cond, List, [], ◌∷◌, Option, Some, None, is_some, length, position, get_or, slice_index_or, slice_set, arith, refl, sym, ap, ◌∙◌, subst}
 use Rattle.std.specs.List.{list_any}
 use Rattle.std.proofs.lemmas.Bool.Decides.{nat_tests}
-use Rattle.std.proofs.lemmas.Grind.{common_steps}
 use Rattle.std.proofs.lemmas.List.{length-set, length-replicate, get_or-replicate, get_or-set_same, get_or-set_other}
 use Rattle.std.proofs.lemmas.List.Quantifiers.{position-Some}
 use Rattle.std.proofs.lemmas.List.Sums.{position_or_len_is}
-use Rattle.std.proofs.Math.Nat.{suc-mul, mul-le-mul_right, div-eq_of_lt-le}
+use Rattle.std.proofs.Math.Nat.{mul-le-mul_right, div-eq_of_lt-le}
 use Rattle.osc_class.specs.Rooms.{IsRoom}
 use Rattle.osc_class.specs.declared.Room.{Room}
 use Rattle.osc_class.specs.declared.Room.TheVariants.{Small, Pages}
@@ -17,10 +16,10 @@ use Rattle.osc_slot.specs.Slots.{or_else, beside, empty_page}
 use Rattle.osc_slot.proofs.Bounds.{slots_positive}
 use Rattle.osc_slot.proofs.Counting.{least_same, any_same, least-Some, least-None}
 use Rattle.osc_heap.specs.declared.page_sets.PageSets.{PageSets}
-use Rattle.osc_heap.specs.Layout.{AreSized, AreTold, IsTold, told_areas, room_at, bit_at, row_of, bits, with_bit, page_held, page_beside, row_beside, row_empty_page, all_free, free_row, page_slots, page_count, no_block_on, with_page, TellsRow, TellRows, TellNone}
+use Rattle.osc_heap.specs.Layout.{AreSized, AreTold, IsTold, room_at, bit_at, row_of, bits, with_bit, page_held, page_beside, row_beside, row_empty_page, all_free, page_slots, page_count, no_block_on, with_page, TellsRow, TellRows, TellNone}
 use Rattle.osc_heap.proofs.Rows.{room_at_area, area_of_room_at, room_at_is_room}
 use Rattle.osc_heap.proofs.Changes.{room_sized}
-use Rattle.osc_heap.proofs.Parts.{beside_is, empty_page_is}
+use Rattle.osc_heap.proofs.Parts.{beside_is}
 use Rattle.osc_heap.proofs.Scans.{page_fits, beside_from, beside_more, beside_end, beside_all}
 
 least_before : (test : ℕ → Bool) (from count i m : ℕ) → least test from count ≡ Some i → from ≤ m → m < i → test m ≡ false

@@ -28,7 +28,7 @@ no_blocks frames area [] f = refl
 no_blocks frames area (row ∷ rows) f =
     no_row frames (room_at area) 0 row (blocks_from frames (area + 1) rows) (grind (arith, nat_tests)) ∙ no_blocks frames (area + 1) rows (grind (arith, nat_tests))
 
-no_held : (n : ℕ) → list_any (λ (held : Bool). held) (replicate n false) ≡ false
+pub no_held : (n : ℕ) → list_any (λ (held : Bool). held) (replicate n false) ≡ false
 no_held zero = refl
 no_held (suc n) = no_held n
 
@@ -110,9 +110,9 @@ same_read (z ∷ xs) zero c d l = refl
 same_read (z ∷ xs) (suc j) c d l = same_read xs j c d (omega arith)
 
 -- the area that is copied next has its size still
-pub next_size : (frames : ℕ) (from into : List (List Bool)) (i : ℕ) (x y : List Bool) → length from ≡ 13 + frames → AreSized frames 0 from → length into ≡ 13 + frames → AreSized frames 0 into → i < length from
+pub next_size : (frames : ℕ) (from into : List (List Bool)) (i : ℕ) (x y : List Bool) → length into ≡ length from → AreSized frames 0 from → AreSized frames 0 into → i < length from
     → x ≡ get_or (take i from ++ drop i into) i x → y ≡ get_or from i y → length x ≡ length y
-next_size frames from into i x y l s m t h e f =
+next_size frames from into i x y l s t h e f =
     let a = row_sized frames 0 i from s h in
     let b = row_sized frames 0 i into t (omega arith) in
     let d : x ≡ get_or into i x = e ∙ at_drop from into i x (omega arith) (omega arith) in

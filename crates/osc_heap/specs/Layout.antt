@@ -1,6 +1,6 @@
 -- How truth values, one for each slot of each area, stand for the held blocks of a heap. This project's own.
-use Rattle.std.specs.Prelude.{ℕ, ◌+◌, ◌-◌, ◌*◌, ◌/◌, ◌≡◌, ◌<◌, ◌≤◌, nat_le, nat_lt, Bool, true, false, not, ◌&&◌, if◌then◌else◌, Option, Some, None, is_some, List, [], ◌∷◌, length, min, replicate, slice_get, slice_set, slice_index, slice_index_or}
-use Rattle.std.specs.List.{list_any, list_all}
+use Rattle.std.specs.Prelude.{ℕ, ◌+◌, ◌-◌, ◌*◌, ◌/◌, ◌≡◌, ◌<◌, ◌≤◌, nat_le, nat_lt, Bool, true, false, not, ◌&&◌, if◌then◌else◌, Option, Some, None, is_some, List, [], ◌∷◌, length, map, min, replicate, slice_get, slice_set, slice_index, slice_index_or}
+use Rattle.std.specs.List.{list_any, list_all, range_with_len}
 use Rattle.std.specs.Vec.{vec_capacity}
 use Rattle.osc_class.specs.declared.Room.{Room}
 use Rattle.osc_class.specs.declared.Room.TheVariants.{Small, Pages}
@@ -54,6 +54,13 @@ row_beside pages slots row = least (λ slot. page_held slots row (slot / slots) 
 -- the least of so many pages that holds no block
 unfoldable pub row_empty_page : ℕ → ℕ → List Bool → Option ℕ
 row_empty_page pages slots row = least (λ page. not (page_held slots row page)) 0 pages
+
+-- the truth values of an area: the first areas have their own, and each later one those of its slots among 64 that are kept for it
+abbrev pub kept_row : ℕ → List (List Bool) → List Bool → ℕ → List Bool
+kept_row frames wide narrow area = if nat_lt area 76 then slice_index_or wide area [] else map (λ slot. bit_at narrow slot) (range_with_len (64 * (area - 76)) (slots_in frames (room_at area)))
+
+abbrev pub rows_of : ℕ → List (List Bool) → List Bool → List (List Bool)
+rows_of frames wide narrow = map (λ area. kept_row frames wide narrow area) (range_with_len 0 (13 + frames))
 
 -- the held blocks of an area from this slot on, and those after it
 unfoldable pub blocks_of_row : ℕ → Room → ℕ → List Bool → List Block → List Block
@@ -138,9 +145,9 @@ pub record IsTold (pages : ℕ) (sets : PageSets) : Type 0 where
   pub partly : length sets.partly ≡ pages
   pub empty : length sets.empty ≡ pages
 
--- the areas whose pages are told: those of the classes, and those of up to 63 pages, as far as there are
+-- the areas whose pages are told: those of the classes, and those of up to 7 pages, as far as there are
 abbrev pub told_areas : ℕ → ℕ
-told_areas frames = min (13 + frames) 76
+told_areas frames = min (13 + frames) 20
 
 -- so many pages are told of each of these areas
 pub record AreTold (frames : ℕ) (told : List PageSets) : Type 0 where
@@ -164,15 +171,15 @@ pages_from page (None ∷ table) rest = pages_from (page + 1) table rest
 pages_from page (Some frame ∷ table) rest = record { page = page; frame = frame } ∷ pages_from (page + 1) table rest
 
 abbrev pub pages_of : HeldPages → List HeapPage
-pages_of pages = pages_from first_page pages.table.items pages.rest.items
+pages_of pages = pages_from first_page pages.table pages.rest.items
 
 -- the first page after those of the table
 abbrev pub table_end : HeldPages → ℕ
-table_end pages = first_page + length pages.table.items
+table_end pages = first_page + length pages.table
 
 -- the others are past the table
 abbrev pub AreHeld : HeldPages → Type 0
-AreHeld pages = AllAbove (λ (p : HeapPage). p.page) (0x1FFFFFF + length pages.table.items) pages.rest.items
+AreHeld pages = AllAbove (λ (p : HeapPage). p.page) (0x1FFFFFF + length pages.table) pages.rest.items
 
 abbrev pub renamed : List ℕ → Option ℕ → Option ℕ
 renamed names None = None
@@ -183,4 +190,4 @@ pub record AreKept (frames : ℕ) (rows : List (List Bool)) (told : List PageSet
   pub parts : AreParts frames rows (pages_of pages) (vec_capacity pages.rest)
   pub tell : TellRows frames rows told
   pub held : AreHeld pages
-  pub table : length pages.table.items ≡ 13 * frames
+  pub table : length pages.table ≡ 13 * frames

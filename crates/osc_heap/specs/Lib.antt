@@ -5,4 +5,5 @@ pub use Rattle.osc_slot.specs.Ordered
 pub use Rattle.osc_slot.specs.Areas
 pub use Rattle.osc_slot.specs.Slots
 pub use Rattle.osc_slot.specs.Heap
+pub mod Table
 pub mod Layout

@@ -4,6 +4,7 @@ ghost use Rattle.std.specs.Prelude.{◌≡◌, ◌+◌, ◌*◌, ◌^◌, ◌<�
 ghost use Rattle.osc_slot.specs.Least.{least, any};
 ghost use Rattle.osc_heap.specs.Layout.{bit_at, free_row, page_held, page_beside};
 
+use crate::reserved::fill_up;
 use crate::slot_bits;
 use std::alloc::{AllocError, Global};
 use std::marker::Model;
@@ -12,18 +13,20 @@ use std::marker::Model;
 #[derive(Drop)]
 pub struct Area {
     slots: usize,
+    /// The bits of the slots, as far as one was held so far. It has room for all.
     held: Vec<u64>,
 }
 
 impl Model for Area {
-    ghost use Rattle.std.specs.Prelude.{◌≡◌, ◌+◌, ◌/◌, ◌^◌, ◌<◌, List, Bool, length};
+    ghost use Rattle.std.specs.Prelude.{◌+◌, ◌/◌, ◌^◌, ◌<◌, ◌≤◌, List, Bool, length};
+    ghost use Rattle.std.specs.Vec.{vec_capacity};
     ghost use Rattle.osc_frames.specs.Words.{numbers_of};
 
     ghost Value = { List Bool };
 
     ghost view = { λ area. numbers_of area.held.items area.slots };
 
-    ghost invariant = { λ area. (length area.held.items ≡ area.slots / 64 + 1) × (area.slots < 2 ^ 64) };
+    ghost invariant = { λ area. (length area.held.items ≤ area.slots / 64 + 1) × (area.slots / 64 + 1 ≤ vec_capacity area.held) × (area.slots < 2 ^ 64) };
 }
 
 impl Area {
@@ -33,7 +36,7 @@ impl Area {
     {
         Ok(Area {
             slots,
-            held: slot_bits::no_bits(alloc, slots / 64 + 1)?,
+            held: Vec::with_capacity(alloc, slots / 64 + 1)?,
         })
     }
 
@@ -47,6 +50,7 @@ impl Area {
         requires { slot < length self.old }
         ensures { self.new ≡ slice_set self.old slot held }
     {
+        fill_up(&mut self.held, slot / 64 + 1, 0);
         slot_bits::set_bit(&mut self.held, slot, held);
     }
 
@@ -54,7 +58,7 @@ impl Area {
     pub fn clear(&mut self)
         ensures { self.new ≡ free_row self.old }
     {
-        self.held.fill(0);
+        self.held.clear();
     }
 
     /// Holds the slots that another area of this size holds.
@@ -62,7 +66,8 @@ impl Area {
         requires { length self.old ≡ length other.now }
         ensures { self.new ≡ other.now }
     {
-        self.held.copy_from_slice(&other.held);
+        self.held.clear();
+        self.held.extend_from_slice(&other.held).unwrap();
     }
 
     /// Whether a page holds a block, where a page has so many slots.
@@ -105,5 +110,13 @@ impl Area {
         ensures { result ≡ least (λ slot. not (bit_at self.now slot)) 0 (length self.now) }
     {
         slot_bits::least_as(&self.held, 0, self.slots, false)
+    }
+
+    /// The least free one of so many slots from one on.
+    pub fn free_from(&self, first: usize, count: usize) -> Option<usize>
+        requires { first + count ≤ length self.now }
+        ensures { result ≡ least (λ slot. not (bit_at self.now slot)) first count }
+    {
+        slot_bits::least_as(&self.held, first, count, false)
     }
 }

@@ -9,26 +9,15 @@ ghost use Rattle.osc_slot.specs.Slots.{slot, beside, empty_page, first_slot, has
 ghost use Rattle.osc_heap.specs.Layout.{AreFree, AreSized, AreTold, TellNone, TellRows, told_areas, free_row, page_beside, page_held, page_slots, row_of, bits, with_bit, with_page};
 
 use crate::area::Area;
+use crate::area_list::Areas;
 use crate::page_sets::PageSets;
 use crate::slots::{area_of, page_count, page_slots, room_at, slots_in, slots_of};
 use osc_class::Room;
 use std::alloc::{AllocError, Global};
 
-/// The areas whose pages are told. Each of the others has at most 64 slots.
-const TOLD_AREAS: usize = 76;
-
-/// The areas of a heap that holds no block.
-pub fn free_areas(alloc: Global, frames: u32) -> Result<Vec<Area>, AllocError>
-    requires { frames ≤ 4096 }
-    ensures { IfOk result (λ areas. AreFree frames areas.items) }
-{
-    let count = 13 + frames as usize;
-    let mut areas = Vec::with_capacity(alloc, count)?;
-    for area in 0..count {
-        areas.push(Area::new(alloc, slots_in(frames, room_at(area)))?)?;
-    }
-    Ok(areas)
-}
+/// The areas whose pages are told. The bits of each of the others fill no more words than its blocks have
+/// pages.
+const TOLD_AREAS: usize = 20;
 
 /// What is told of the pages of a heap that holds no block.
 pub fn free_pages(alloc: Global, frames: u32) -> Result<Vec<PageSets>, AllocError>
@@ -44,18 +33,18 @@ pub fn free_pages(alloc: Global, frames: u32) -> Result<Vec<PageSets>, AllocErro
 }
 
 // The area of a room.
-fn area_for(areas: &[Area], frames: u32, room: Room) -> &Area
+fn area_for(areas: &Areas, frames: u32, room: Room) -> &Area
     requires most { frames ≤ 4096 }
     requires areas { (length areas.now ≡ 13 + frames) × AreSized frames 0 areas.now }
-    requires is_room { IsRoom room × (area_of room < length areas.now) }
+    requires is_room { IsRoom room × (area_of room < 76) × (area_of room < length areas.now) }
     ensures row { result.now ≡ row_of areas.now room }
     ensures size { length result.now ≡ slots_in frames room }
 {
-    &areas[area_of(room)]
+    areas.wide(area_of(room))
 }
 
 // The least free slot on a page of a class that holds a block.
-fn beside(areas: &[Area], told: &[PageSets], frames: u32, class: u8) -> Option<usize>
+fn beside(areas: &Areas, told: &[PageSets], frames: u32, class: u8) -> Option<usize>
     requires most { frames ≤ 4096 }
     requires areas { (length areas.now ≡ 13 + frames) × AreSized frames 0 areas.now }
     requires told { TellRows frames areas.now told.now }
@@ -72,7 +61,7 @@ fn beside(areas: &[Area], told: &[PageSets], frames: u32, class: u8) -> Option<u
 }
 
 // Whether a page of a class holds a block and has a free slot.
-fn has_beside(areas: &[Area], told: &[PageSets], frames: u32, class: u8) -> bool
+fn has_beside(areas: &Areas, told: &[PageSets], frames: u32, class: u8) -> bool
     requires most { frames ≤ 4096 }
     requires areas { length areas.now ≡ 13 + frames }
     requires told { TellRows frames areas.now told.now }
@@ -83,7 +72,7 @@ fn has_beside(areas: &[Area], told: &[PageSets], frames: u32, class: u8) -> bool
 }
 
 // The first slot of the least page of a class that holds no block.
-fn first_of_empty(areas: &[Area], told: &[PageSets], frames: u32, class: u8) -> Option<usize>
+fn first_of_empty(areas: &Areas, told: &[PageSets], frames: u32, class: u8) -> Option<usize>
     requires most { frames ≤ 4096 }
     requires areas { length areas.now ≡ 13 + frames }
     requires told { TellRows frames areas.now told.now }
@@ -97,7 +86,7 @@ fn first_of_empty(areas: &[Area], told: &[PageSets], frames: u32, class: u8) -> 
 }
 
 // The least free slot for a block of whole pages.
-fn first_whole(areas: &[Area], told: &[PageSets], frames: u32, room: Room) -> Option<usize>
+fn first_whole(areas: &Areas, told: &[PageSets], frames: u32, room: Room) -> Option<usize>
     requires most { frames ≤ 4096 }
     requires areas { (length areas.now ≡ 13 + frames) × AreSized frames 0 areas.now }
     requires told { TellRows frames areas.now told.now }
@@ -111,11 +100,11 @@ fn first_whole(areas: &[Area], told: &[PageSets], frames: u32, room: Room) -> Op
             None => None,
         };
     }
-    area_for(areas, frames, room).least_free()
+    areas.least_free(area)
 }
 
 // Whether a page of a class holds a block.
-fn has_block(areas: &[Area], frames: u32, class: u8, page: usize) -> bool
+fn has_block(areas: &Areas, frames: u32, class: u8, page: usize) -> bool
     requires most { frames ≤ 4096 }
     requires areas { (length areas.now ≡ 13 + frames) × AreSized frames 0 areas.now }
     requires is_class { (class < 13) × (page < frames) }
@@ -125,7 +114,7 @@ fn has_block(areas: &[Area], frames: u32, class: u8, page: usize) -> bool
 }
 
 /// The slot of the next block of a room.
-pub fn least_slot(areas: &[Area], told: &[PageSets], frames: u32, room: Room) -> Option<usize>
+pub fn least_slot(areas: &Areas, told: &[PageSets], frames: u32, room: Room) -> Option<usize>
     requires most { frames ≤ 4096 }
     requires areas { (length areas.now ≡ 13 + frames) × AreSized frames 0 areas.now }
     requires told { TellRows frames areas.now told.now }
@@ -142,7 +131,7 @@ pub fn least_slot(areas: &[Area], told: &[PageSets], frames: u32, room: Room) ->
 }
 
 /// The frames that the next block of a room newly takes.
-pub fn need_over(areas: &[Area], told: &[PageSets], frames: u32, room: Room) -> u64
+pub fn need_over(areas: &Areas, told: &[PageSets], frames: u32, room: Room) -> u64
     requires most { frames ≤ 4096 }
     requires areas { (length areas.now ≡ 13 + frames) × AreSized frames 0 areas.now }
     requires told { TellRows frames areas.now told.now }
@@ -162,7 +151,7 @@ pub fn need_over(areas: &[Area], told: &[PageSets], frames: u32, room: Room) -> 
 }
 
 /// The pages that a block at a slot has and no held block has.
-pub fn pages_alone(areas: &[Area], frames: u32, room: Room, slot: usize) -> u64
+pub fn pages_alone(areas: &Areas, frames: u32, room: Room, slot: usize) -> u64
     requires most { frames ≤ 4096 }
     requires areas { (length areas.now ≡ 13 + frames) × AreSized frames 0 areas.now }
     requires is_room { IsRoom room }
@@ -182,7 +171,7 @@ pub fn pages_alone(areas: &[Area], frames: u32, room: Room, slot: usize) -> u64
 }
 
 // Whether the page of a slot of a class holds a block at another slot.
-fn has_other(areas: &[Area], frames: u32, class: u8, slot: usize) -> bool
+fn has_other(areas: &Areas, frames: u32, class: u8, slot: usize) -> bool
     requires most { frames ≤ 4096 }
     requires areas { (length areas.now ≡ 13 + frames) × AreSized frames 0 areas.now }
     requires is_class { class < 13 }
@@ -194,7 +183,7 @@ fn has_other(areas: &[Area], frames: u32, class: u8, slot: usize) -> bool
 }
 
 /// The pages of a held block at a slot that hold no other.
-pub fn own_pages(areas: &[Area], frames: u32, room: Room, slot: usize) -> u64
+pub fn own_pages(areas: &Areas, frames: u32, room: Room, slot: usize) -> u64
     requires most { frames ≤ 4096 }
     requires areas { (length areas.now ≡ 13 + frames) × AreSized frames 0 areas.now }
     requires is_room { IsRoom room }
@@ -215,7 +204,7 @@ pub fn own_pages(areas: &[Area], frames: u32, room: Room, slot: usize) -> u64
 
 /// Sets whether a slot of a room's area is held.
 pub fn set_slot(
-    areas: &mut Vec<Area>,
+    areas: &mut Areas,
     told: &mut Vec<PageSets>,
     frames: u32,
     room: Room,
@@ -223,17 +212,17 @@ pub fn set_slot(
     held: bool,
 )
     requires most { frames ≤ 4096 }
-    requires areas { (length areas.old.items ≡ 13 + frames) × AreSized frames 0 areas.old.items }
-    requires told { TellRows frames areas.old.items told.old.items }
-    requires is_room { IsRoom room × (area_of room < length areas.old.items) }
+    requires areas { (length areas.old ≡ 13 + frames) × AreSized frames 0 areas.old }
+    requires told { TellRows frames areas.old told.old.items }
+    requires is_room { IsRoom room × (area_of room < length areas.old) }
     requires within { slot < slots_in frames room }
-    ensures areas { areas.new.items ≡ with_bit areas.old.items room slot held }
-    ensures told { TellRows frames areas.new.items told.new.items }
+    ensures areas { areas.new ≡ with_bit areas.old room slot held }
+    ensures told { TellRows frames areas.new told.new.items }
 {
     let area = area_of(room);
-    areas[area].set(slot, held);
+    areas.set(area, slot, held);
     if area < told.len() {
-        tell(&areas[area], &mut told[area], slot, page_slots(room));
+        tell(areas.wide(area), &mut told[area], slot, page_slots(room));
     }
 }
 
@@ -251,20 +240,11 @@ fn tell(area: &Area, sets: &mut PageSets, slot: usize, slots: usize)
 }
 
 /// Whether a slot of a room's area is held.
-pub fn is_held(areas: &[Area], room: Room, slot: usize) -> bool
+pub fn is_held(areas: &Areas, room: Room, slot: usize) -> bool
     requires { (area_of room ≤ 4108) × (area_of room < length areas.now) }
     ensures { result ≡ bits areas.now room slot }
 {
-    areas[area_of(room)].is_held(slot)
-}
-
-/// Frees each slot of each area.
-pub fn clear_all(areas: &mut Vec<Area>)
-    ensures { areas.new.items ≡ map free_row areas.old.items }
-{
-    for i in 0..areas.len() {
-        areas[i].clear();
-    }
+    areas.is_held(area_of(room), slot)
 }
 
 /// Tells that no page holds a block.
@@ -274,17 +254,6 @@ pub fn clear_told(told: &mut Vec<PageSets>, frames: u32)
 {
     for i in 0..told.len() {
         told[i].clear();
-    }
-}
-
-/// Holds the slots that other areas of these sizes hold.
-pub fn copy_all(areas: &[Area], into: &mut Vec<Area>, frames: u32)
-    requires from { (length areas.now ≡ 13 + frames) × AreSized frames 0 areas.now }
-    requires to { (length into.old.items ≡ 13 + frames) × AreSized frames 0 into.old.items }
-    ensures { into.new.items ≡ areas.now }
-{
-    for i in 0..areas.len() {
-        into[i].copy_from(&areas[i]);
     }
 }
 

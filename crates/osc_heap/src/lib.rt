@@ -5,9 +5,12 @@
 #![tactic(auto)]
 
 mod area;
+mod area_list;
 mod areas;
 mod page_sets;
+mod page_table;
 mod pages;
+mod reserved;
 mod rest;
 mod slot_bits;
 mod slots;
@@ -18,7 +21,7 @@ ghost use Rattle.osc_class.specs.Rooms.{IsRoom, shadow_pages};
 ghost use Rattle.osc_slot.specs.Slots.{is_held, is_covered, least_start, need};
 ghost use Rattle.osc_slot.specs.Heap.{IsHeap, FramesAgree, AreNames, empty_heap, next_block, place, release, without_block, clear, copy, frame_of, block_of_user, free_count};
 
-use crate::area::Area;
+use crate::area_list::Areas;
 use crate::page_sets::PageSets;
 use crate::pages::HeldPages;
 use osc_class::Room;
@@ -34,7 +37,7 @@ const HEADER: u64 = 16;
 #[derive(Drop)]
 pub struct CanonHeap {
     frames: u32,
-    areas: Vec<Area>,
+    areas: Areas,
     told: Vec<PageSets>,
     pages: HeldPages,
 }
@@ -46,9 +49,9 @@ impl Model for CanonHeap {
 
     ghost use Rattle.osc_heap.specs.Layout.{heap_of, pages_of, AreKept};
 
-    ghost view = { λ heap. heap_of heap.frames heap.areas.items (pages_of heap.pages) };
+    ghost view = { λ heap. heap_of heap.frames heap.areas (pages_of heap.pages) };
 
-    ghost invariant = { λ heap. AreKept heap.frames heap.areas.items heap.told.items heap.pages };
+    ghost invariant = { λ heap. AreKept heap.frames heap.areas heap.told.items heap.pages };
 }
 
 impl CanonHeap {
@@ -57,7 +60,7 @@ impl CanonHeap {
         requires { frames ≤ 4096 }
         ensures { IfOk result (λ heap. (heap ≡ empty_heap frames) × IsHeap heap) }
     {
-        let areas = areas::free_areas(alloc, frames)?;
+        let areas = Areas::new(alloc, frames)?;
         let told = areas::free_pages(alloc, frames)?;
         let pages = HeldPages::new(alloc, frames)?;
         Ok(CanonHeap {
@@ -195,7 +198,7 @@ impl CanonHeap {
         ensures child { child.new ≡ copy names.now self.now }
         ensures valid { IsHeap self.now × IsHeap child.new }
     {
-        areas::copy_all(&self.areas, &mut child.areas, self.frames);
+        child.areas.copy_from(&self.areas);
         areas::copy_told(&self.told, &mut child.told, self.frames);
         child.pages.copy_from(&self.pages, names);
     }
@@ -211,7 +214,7 @@ impl CanonHeap {
         ensures valid { IsHeap self.new }
     {
         self.pages.clear(frames);
-        areas::clear_all(&mut self.areas);
+        self.areas.clear();
         areas::clear_told(&mut self.told, self.frames);
     }
 }

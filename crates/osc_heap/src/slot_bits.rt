@@ -1,16 +1,15 @@
-//! Truth values as bits of words, 64 to a word.
+//! Truth values as bits of words, 64 to a word. Past the last word no bit is 1.
 
-ghost use Rattle.std.specs.Prelude.{ℕ, ◌≡◌, ◌+◌, ◌*◌, ◌^◌, ◌<◌, ◌≤◌, ◌&&◌, nat_lt, length, replicate, slice_set, IfOk};
+ghost use Rattle.std.specs.Prelude.{ℕ, ◌≡◌, ◌+◌, ◌*◌, ◌^◌, ◌<◌, ◌≤◌, ◌&&◌, nat_lt, length, slice_set};
 ghost use Rattle.std.specs.Int.{bit_at};
 ghost use Rattle.osc_frames.specs.Words.{digit, has, numbers_of};
 ghost use Rattle.osc_slot.specs.Least.{least};
 ghost use Rattle.osc_heap.specs.Layout.{has_as};
 
-use std::alloc::{AllocError, Global};
+use crate::reserved::value_at;
 
 /// The least of `count` numbers from `first` on at which the bit is as wanted.
 pub fn least_as(words: &[u64], first: usize, count: usize, wanted: bool) -> Option<usize>
-    requires within { first + count ≤ 64 * length words.now }
     requires fits { first + count < 2 ^ 64 }
     ensures { result ≡ least (has_as words.now wanted) first count }
 {
@@ -30,7 +29,6 @@ pub fn least_as(words: &[u64], first: usize, count: usize, wanted: bool) -> Opti
 // The word whose bit j is 1 exactly where j is below the count and the bit of `first + j` is as wanted.
 fn window(words: &[u64], first: usize, count: usize, wanted: bool) -> u64
     requires count { (0 < count) × (count ≤ 64) }
-    requires within { first + count ≤ 64 * length words.now }
     ensures { (j : ℕ) → j < 64 → bit_at result j ≡ digit (nat_lt j count && has_as words.now wanted (first + j)) }
 {
     let bits = bits_from(words, first, count);
@@ -41,22 +39,14 @@ fn window(words: &[u64], first: usize, count: usize, wanted: bool) -> u64
 // The bits of `count` numbers from `first` on, and of others after them.
 fn bits_from(words: &[u64], first: usize, count: usize) -> u64
     requires count { (0 < count) × (count ≤ 64) }
-    requires within { first + count ≤ 64 * length words.now }
     ensures { (j : ℕ) → j < count → bit_at result j ≡ digit (has words.now (first + j)) }
 {
     let shift = first % 64;
-    let low = words[first / 64] >> shift;
+    let low = value_at(words, first / 64, 0) >> shift;
     if shift + count <= 64 {
         return low;
     }
-    low | words[first / 64 + 1] << (64 - shift)
-}
-
-/// So many words with no bit that is 1.
-pub fn no_bits(alloc: Global, count: usize) -> Result<Vec<u64>, AllocError>
-    ensures { IfOk result (λ words. words.items ≡ replicate count 0) }
-{
-    vec![in alloc; 0; count]
+    low | value_at(words, first / 64 + 1, 0) << (64 - shift)
 }
 
 /// Sets the bit of a number.
@@ -75,8 +65,7 @@ pub fn set_bit(words: &mut [u64], number: usize, value: bool)
 
 /// Whether the bit of a number is 1.
 pub fn is_set(words: &[u64], number: usize) -> bool
-    requires { number < 64 * length words.now }
     ensures { result ≡ has words.now number }
 {
-    (words[number / 64] >> (number % 64)) & 1 == 1
+    (value_at(words, number / 64, 0) >> (number % 64)) & 1 == 1
 }

@@ -107,6 +107,42 @@ fn places_and_releases(rt: HostRuntime) -> Result<(), Fail> {
     Ok(())
 }
 
+/// The frames of pages: of a block of two pages and three of three pages in a machine of 64 frames, where
+/// the second of three was released, the two pages placed, and three pages again in the place that was free.
+const WHOLE_FRAMES: [(u64, Option<u32>); 13] = [
+    (0x200_0380, Some(3)),
+    (0x200_0381, Some(4)),
+    (0x200_0382, None),
+    (0x200_03C0, Some(0)),
+    (0x200_03C1, Some(1)),
+    (0x200_03C2, Some(2)),
+    (0x200_03C3, Some(5)),
+    (0x200_03C4, Some(9)),
+    (0x200_03C5, Some(10)),
+    (0x200_03C6, Some(6)),
+    (0x200_03C7, Some(7)),
+    (0x200_03C8, Some(8)),
+    (0x200_03C9, None),
+];
+
+/// Blocks of whole pages stand between others.
+#[test]
+fn whole_blocks_between_others(rt: HostRuntime) -> Result<(), Fail> {
+    let (mut heap, mut frames) = machine(rt.alloc(), 64)?;
+    for start in [0x20_003C_0000, 0x20_003C_3000, 0x20_003C_6000] {
+        assert_eq!(rt; placed(&mut heap, &mut frames, room_of(12_272)), start);
+    }
+    assert!(rt; try_release(&mut heap, &mut frames, 0x20_003C_3010));
+    for (bytes, start) in [(8_176, 0x20_0038_0000), (12_272, 0x20_003C_3000)] {
+        assert_eq!(rt; placed(&mut heap, &mut frames, room_of(bytes)), start);
+    }
+    for (page, frame) in WHOLE_FRAMES {
+        assert_eq!(rt; heap.frame_at(page), frame);
+    }
+    assert_eq!(rt; frames.free_count(), 53);
+    Ok(())
+}
+
 /// Copies a heap of a machine of two frames, so that they change places.
 fn copy_turned(heap: &CanonHeap, child: &mut CanonHeap)
     requires heap { (heap.now.frames ≡ 2) × IsHeap heap.now }
@@ -152,6 +188,18 @@ struct Plain {
     held: BTreeSet<u64>,
 }
 
+/// The first page whose count of held slots is one from `low` on and below `high`.
+fn first_page(counts: &[u64], low: u64, high: u64) -> Option<u64> {
+    let mut page: u64 = 0;
+    for count in counts {
+        if low <= *count && *count < high {
+            return Some(page);
+        }
+        page = page.wrapping_add(1);
+    }
+    None
+}
+
 impl Plain {
     /// How many held slots each page has.
     fn counts(&self, alloc: Global, frames: u64) -> Result<Vec<u64>, AllocError> {
@@ -170,8 +218,11 @@ impl Plain {
         if self.slots == 0 {
             return Ok((self.held.len() as u64).wrapping_mul(self.size / 4096));
         }
-        let counts = self.counts(alloc, frames)?;
-        Ok(counts.iter().filter(|count| **count > 0).count() as u64)
+        let mut used: u64 = 0;
+        for count in self.counts(alloc, frames)? {
+            used = used.wrapping_add(count.min(1));
+        }
+        Ok(used)
     }
 
     /// The least slot that is not held, from one on and among so many.
@@ -192,15 +243,13 @@ impl Plain {
             return Ok((self.least(0, slots), pages));
         }
         let counts = self.counts(alloc, frames)?;
-        let beside = counts
-            .iter()
-            .position(|count| *count > 0 && *count < self.slots);
-        if let Some(page) = beside {
-            let first = (page as u64).wrapping_mul(self.slots);
-            return Ok((self.least(first, self.slots), 0));
+        if let Some(page) = first_page(&counts, 1, self.slots) {
+            return Ok((self.least(page.wrapping_mul(self.slots), self.slots), 0));
         }
-        let empty = counts.iter().position(|count| *count == 0);
-        Ok((empty.map(|page| (page as u64).wrapping_mul(self.slots)), 1))
+        match first_page(&counts, 0, 1) {
+            Some(page) => Ok((Some(page.wrapping_mul(self.slots)), 1)),
+            None => Ok((None, 1)),
+        }
     }
 
     /// Where the block at a slot starts.

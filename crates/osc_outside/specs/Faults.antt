@@ -1,5 +1,5 @@
 -- When an outside object fails: counts of faults. This project's own.
-use Rattle.std.specs.Prelude.{ℕ, ◌+◌, ◌-◌, ◌^◌, ◌≤◌, min, OnErr}
+use Rattle.std.specs.Prelude.{ℕ, ◌+◌, ◌-◌, ◌^◌, ◌≡◌, ◌≤◌, min, OnErr, OnOk}
 use Rattle.std.specs.declared.result.Result.{Result}
 
 -- a count after one more: it stands still at the greatest number of 64 bits
@@ -10,7 +10,8 @@ risen count = min (count + 1) (2 ^ 64 - 1)
 abbrev pub Rose : ℕ → ℕ → Type 0
 Rose before now = risen before ≤ now
 
--- a call's count of faults never falls, and the call failed only where it rose
+-- a call's count of faults never falls: it rose where the call failed, and else it stands
 pub record HasCause {T E : Type 0} (before now : ℕ) (result : Result T E) : Type 0 where
   pub later : before ≤ now
   pub failed : OnErr result (Rose before now)
+  pub done : OnOk result (now ≡ before)

@@ -243,3 +243,21 @@ fn std_sink(rt: HostRuntime) -> Result<(), Fail> {
     assert_eq!(rt; held.as_slice(), b"abc".as_slice());
     Ok(())
 }
+
+/// More bytes than the host moves in one piece.
+const LONG: usize = 200_000;
+
+#[test]
+fn std_streams_move_long_pieces(rt: HostRuntime) -> Result<(), Fail> {
+    let text = vec![in rt.alloc(); b'x'; LONG]?;
+    let mut buffer = vec![in rt.alloc(); b'.'; LONG]?;
+    let mut source = StdSource::new(text.as_slice());
+    assert_eq!(rt; source.read(&mut buffer), Ok(LONG));
+    assert_eq!(rt; buffer, text);
+    assert_eq!(rt; source.read(&mut buffer), Ok(0));
+    let mut held = Vec::new(rt.alloc());
+    let mut sink = StdSink::new(&mut held);
+    assert_eq!(rt; sink.write(&text), Ok(LONG));
+    assert_eq!(rt; held, text);
+    Ok(())
+}

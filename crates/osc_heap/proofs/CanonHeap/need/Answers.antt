@@ -6,4 +6,4 @@ use Rattle.osc_heap.proofs.CanonHeap.need.Goals as goal
 
 pub returns-clause-need : goal.returns-clause-need
 returns-clause-need c =
-    (rw c.deref.ensures.value at c.need_over.ensures) ∙ need_here c.self.inside.frames c.self.inside.areas.items (pages_of c.self.inside.pages) c.args.self.now c.args.room c.self.view_is c.requires
+    c.need_over.ensures ∙ need_here c.self.inside.frames c.self.inside.areas (pages_of c.self.inside.pages) c.args.self.now c.args.room c.self.view_is c.requires

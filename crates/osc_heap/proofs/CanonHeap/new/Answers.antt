@@ -9,8 +9,8 @@ pub invariant_of-result : goal.invariant_of-result
 invariant_of-result c =
     let room = c.in_ok-pages.ensures.room in
     record {
-      parts = rw c.in_ok-pages.ensures.none (empty_parts c.args.frames c.in_ok-areas.areas.items (vec_capacity c.in_ok-pages.pages.rest) c.requires c.in_ok-areas.ensures (omega arith));
-      tell = none_told c.args.frames c.in_ok-areas.areas.items c.in_ok-told.told.items c.in_ok-areas.ensures.free c.in_ok-told.ensures;
+      parts = rw c.in_ok-pages.ensures.none (empty_parts c.args.frames c.in_ok-areas.areas (vec_capacity c.in_ok-pages.pages.rest) c.requires c.in_ok-areas.ensures (omega arith));
+      tell = none_told c.args.frames c.in_ok-areas.areas c.in_ok-told.told.items c.in_ok-areas.ensures.free c.in_ok-told.ensures;
       held = c.in_ok-pages.ensures.held;
       table = c.in_ok-pages.ensures.table;
     }
@@ -19,4 +19,4 @@ pub returns : goal.returns
 returns c =
     let room = c.in_ok-pages.ensures.room in
     rw c.in_ok-pages.ensures.none
-    (empty_view c.args.frames c.in_ok-areas.areas.items c.in_ok-areas.ensures, (empty_parts c.args.frames c.in_ok-areas.areas.items (vec_capacity c.in_ok-pages.pages.rest) c.requires c.in_ok-areas.ensures (omega arith)).is_heap)
+    (empty_view c.args.frames c.in_ok-areas.areas c.in_ok-areas.ensures, (empty_parts c.args.frames c.in_ok-areas.areas (vec_capacity c.in_ok-pages.pages.rest) c.requires c.in_ok-areas.ensures (omega arith)).is_heap)

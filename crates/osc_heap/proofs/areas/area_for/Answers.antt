@@ -7,5 +7,5 @@ use Rattle.osc_heap.proofs.areas.area_for.Goals as goal
 
 pub returns-clause-size : goal.returns-clause-size
 returns-clause-size c =
-    let row : c.index-areas-area_of.result ≡ row_of c.args.areas.now c.args.room = grind (arith, common_steps) in
-    ap length row ∙ room_sized c.args.frames c.args.areas.now c.args.room c.requires.is_room.0 c.requires.areas.1 c.requires.is_room.1
+    let row : c.wide.result.now ≡ row_of c.args.areas.now c.args.room = rw c.area_of.ensures at c.wide.ensures in
+    ap length row ∙ room_sized c.args.frames c.args.areas.now c.args.room c.requires.is_room.0 c.requires.areas.1 c.requires.is_room.2

@@ -1,7 +1,5 @@
 -- The least page that is told to have a slot beside a block has the least such slot.
-use Rattle.std.proofs.Common.{◌≡◌, ◌∙◌, sym, ap, arith}
-use Rattle.osc_heap.specs.Layout.{page_beside}
-use Rattle.osc_slot.specs.Areas.{slots_of}
+use Rattle.std.proofs.Common.{◌∙◌}
 use Rattle.osc_heap.proofs.Tells.{beside_told, partly_within}
 use Rattle.osc_heap.proofs.areas.beside.Goals as goal
 

@@ -1,5 +1,5 @@
 -- The areas so far are told to hold no block, and so many pages are told of each.
-use Rattle.std.proofs.Common.{◌≡◌, ◌<◌, ℕ, length, slice_index_or}
+use Rattle.std.proofs.Common.{◌≡◌, ◌<◌, ℕ, slice_index_or}
 use Rattle.osc_heap.specs.declared.page_sets.PageSets.{PageSets}
 use Rattle.osc_heap.specs.Layout.{AreTold, room_at, page_count, no_block_on}
 use Rattle.osc_heap.proofs.areas.clear_told.Given as goal

@@ -1,5 +1,5 @@
 -- Each area is told alike.
-use Rattle.std.proofs.Common.{arith, ◌≡◌, length, slice_index_or}
+use Rattle.std.proofs.Common.{arith}
 use Rattle.std.proofs.lemmas.List.{same_lists}
 use Rattle.osc_heap.proofs.areas.copy_told.Goals as goal
 

@@ -1,5 +1,5 @@
 -- The least page that is told to hold no block is the least that holds none.
-use Rattle.std.proofs.Common.{ap, ◌*◌}
+use Rattle.std.proofs.Common.{ap}
 use Rattle.osc_slot.specs.Areas.{slots_of}
 use Rattle.osc_slot.specs.Slots.{first_slot}
 use Rattle.osc_heap.proofs.Tells.{empty_told}

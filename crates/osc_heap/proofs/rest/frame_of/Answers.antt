@@ -1,6 +1,5 @@
 -- What stands at the page's place decides.
-use Rattle.std.proofs.Common.{◌≡◌, ◌≢◌, ◌<◌, length, slice_index_or, arith, sym, ap, ◌∙◌}
-use Rattle.osc_slot.specs.declared.HeapPage.{HeapPage}
+use Rattle.std.proofs.Common.{◌≡◌, ◌≢◌, ◌<◌, length, slice_index_or, arith, sym}
 use Rattle.osc_heap.proofs.Places.{place, found_place, missing_place}
 use Rattle.osc_heap.proofs.rest.frame_of.Goals as goal
 

@@ -1,29 +1,28 @@
--- The page at the loop's place is the first of those that are left.
-use Rattle.std.proofs.Common.{rules, ◌<◌, ◌≤◌, length, filter, refl, sym, ap, ◌∙◌, drop, take, ◌++◌}
-use Rattle.std.specs.List.{remove}
+-- What stands between the places of the range's ends is what is in it.
+use Rattle.std.proofs.Common.{◌≡◌, ◌+◌, length, rules, arith, sym, ap, ◌∙◌}
+use Rattle.std.specs.Vec.{vec_len}
 use Rattle.osc_slot.specs.Heap.{give_back}
-use Rattle.osc_heap.specs.Layout.{in_range, out_of_range}
-use Rattle.osc_heap.proofs.Giving.{given_one, all_given}
+use Rattle.osc_heap.proofs.Places.{place, place_le}
+use Rattle.osc_heap.proofs.Ranges.{range, place_order}
 use Rattle.osc_heap.proofs.rest.give_range.Goals as goal
 
-pub give-requires : goal.give-requires
-give-requires c =
-    let within : c.loop-at.at < length c.loop-at.pages.items = search rules in
-    (given_one c.args.first c.args.count c.loop-at.pages.items (remove c.loop-at.pages.items c.loop-at.at) c.loop-at.at c.index-page.result.now c.loop-at.frames refl within c.index-page.ensures c.if-first-page.true c.if-page-first.true c.loop-at.invariant.taken).frame
+pub give_part-requires : goal.give_part-requires
+give_part-requires c =
+    let at : c.place_of-at.result ≡ place c.args.first c.args.pages.now.items = rw c.deref.ensures.value at c.place_of-at.ensures in
+    let end : c.place_of-end.result ≡ place (c.args.first + c.args.count) c.args.pages.now.items = rw c.deref-2.ensures.value at c.place_of-end.ensures in
+    let order = place_order c.args.first (c.args.first + c.args.count) c.args.pages.now.items (omega arith) in
+    let few = place_le (c.args.first + c.args.count) c.args.pages.now.items in
+    let len : vec_len c.args.pages.now ≡ length c.args.pages.now.items = search rules in
+    let r = range c.args.first c.args.count c.args.pages.now.items c.requires.ascending in
+    record { order = rw (at, end) order; within = omega arith; taken = rw (at, end) (rw r.goes at c.requires.taken) }
 
-pub loop-at-preserved-then-page-first : goal.loop-at-preserved-then-page-first
-loop-at-preserved-then-page-first c =
-    let within : c.loop-at.at < length c.loop-at.pages.items = search rules in
-    let x = given_one c.args.first c.args.count c.loop-at.pages.items c.remove-gone.new.self.items c.loop-at.at c.index-page.result.now c.loop-at.frames c.remove-gone.ensures.items within c.index-page.ensures c.if-first-page.true c.if-page-first.true c.loop-at.invariant.taken in
+pub returns : goal.returns
+returns c =
+    let at : c.place_of-at.result ≡ place c.args.first c.args.pages.now.items = rw c.deref.ensures.value at c.place_of-at.ensures in
+    let end : c.place_of-end.result ≡ place (c.args.first + c.args.count) c.args.pages.now.items = rw c.deref-2.ensures.value at c.place_of-end.ensures in
+    let r = range c.args.first c.args.count c.args.pages.now.items c.requires.ascending in
     record {
-      at = search rules;
-      left = c.loop-at.invariant.left ∙ ap (λ ys. take c.loop-at.at c.loop-at.pages.items ++ ys) x.out ∙ ap (λ ys. ys ++ filter (out_of_range c.args.first c.args.count) (drop c.loop-at.at c.remove-gone.new.self.items)) (sym x.front);
-      given = c.loop-at.invariant.given ∙ x.given ∙ ap (give_back (filter (in_range c.args.first c.args.count) (drop c.loop-at.at c.remove-gone.new.self.items))) (sym c.give.ensures);
-      taken = rw c.give.ensures x.taken;
-      room = search rules;
+      pages = (rw (at, end) at c.give_part.ensures.pages) ∙ sym r.stays;
+      free = (rw (at, end) at c.give_part.ensures.free) ∙ sym (ap (λ ps. give_back ps c.args.frames.now) r.goes);
+      room = c.give_part.ensures.room;
     }
-
-pub returns-clause-free : goal.returns-clause-free
-returns-clause-free c =
-    let past : length c.loop-at.pages.items ≤ c.loop-at.at = search rules in
-    sym (c.loop-at.invariant.given ∙ all_given (in_range c.args.first c.args.count) c.loop-at.pages.items c.loop-at.at c.loop-at.frames past)

@@ -1,6 +1,5 @@
 -- The middle page decides for those before it or for those after it.
-use Rattle.std.proofs.Common.{◌<◌, ◌≤◌, ◌+◌, ◌-◌, ◌/◌, ◌≡◌, slice_index_or, arith, refl}
-use Rattle.osc_slot.specs.declared.HeapPage.{HeapPage}
+use Rattle.std.proofs.Common.{◌+◌, ◌-◌, ◌/◌, arith}
 use Rattle.osc_heap.proofs.Places.{ascending_le, place_is}
 use Rattle.osc_heap.proofs.rest.place_of.Goals as goal
 

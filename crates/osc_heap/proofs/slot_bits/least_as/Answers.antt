@@ -1,5 +1,5 @@
 -- A word that is not 0 shows the least number, and one that is 0 shows that none of its numbers is one.
-use Rattle.std.proofs.Common.{◌<◌, ◌≤◌, ◌+◌, ◌-◌, arith, sym, ◌∙◌}
+use Rattle.std.proofs.Common.{◌<◌, ◌≤◌, ◌+◌, arith, sym, ◌∙◌}
 use Rattle.osc_heap.specs.Layout.{has_as}
 use Rattle.osc_heap.proofs.Scans.{least_end}
 use Rattle.osc_heap.proofs.SlotBits.{shown_below, least_past, least_shown}

@@ -7,23 +7,19 @@ use Rattle.osc_heap.proofs.area.Area.free_beside.Goals as goal
 
 pub overflow_mul-page : goal.overflow_mul-page
 overflow_mul-page c =
-    let fits = within_area c.self.inside.held.items c.self.inside.slots (c.args.page * c.args.slots + c.args.slots) c.args.self.now c.self.view_is c.self.invariant.0 c.requires in
-    let most = c.self.invariant.1 in
-    omega (arith, fits.0)
+    let fits = within_area c.self.inside.held.items c.self.inside.slots (c.args.page * c.args.slots + c.args.slots) c.args.self.now c.self.view_is c.requires in
+    let most = c.self.invariant.2 in
+    omega (arith, fits)
 
-pub least_as-requires-clause-within : goal.least_as-requires-clause-within
-least_as-requires-clause-within c =
-    rw c.deref.ensures.value (within_area c.self.inside.held.items c.self.inside.slots (c.args.page * c.args.slots + c.args.slots) c.args.self.now c.self.view_is c.self.invariant.0 c.requires).1
-
-pub least_as-requires-clause-fits : goal.least_as-requires-clause-fits
-least_as-requires-clause-fits c =
-    let fits = within_area c.self.inside.held.items c.self.inside.slots (c.args.page * c.args.slots + c.args.slots) c.args.self.now c.self.view_is c.self.invariant.0 c.requires in
-    let most = c.self.invariant.1 in
-    omega (arith, fits.0)
+pub least_as-requires : goal.least_as-requires
+least_as-requires c =
+    let fits = within_area c.self.inside.held.items c.self.inside.slots (c.args.page * c.args.slots + c.args.slots) c.args.self.now c.self.view_is c.requires in
+    let most = c.self.invariant.2 in
+    omega (arith, fits)
 
 pub returns-then-has_block : goal.returns-then-has_block
 returns-then-has_block c =
-    let fits = within_area c.self.inside.held.items c.self.inside.slots (c.args.page * c.args.slots + c.args.slots) c.args.self.now c.self.view_is c.self.invariant.0 c.requires in
+    let fits = within_area c.self.inside.held.items c.self.inside.slots (c.args.page * c.args.slots + c.args.slots) c.args.self.now c.self.view_is c.requires in
     let found : c.least_as.result ≡ least (has_as c.self.inside.held.items false) (c.args.page * c.args.slots) c.args.slots = rw c.deref.ensures.value at c.least_as.ensures in
     let held : page_held c.args.slots c.args.self.now c.args.page ≡ true = sym c.has_block.ensures ∙ c.if-has_block.true in
-    rw held (found ∙ sym (free_in_area c.self.inside.held.items c.self.inside.slots (c.args.page * c.args.slots) c.args.slots c.args.self.now c.self.view_is fits.0))
+    rw held (found ∙ sym (free_in_area c.self.inside.held.items c.self.inside.slots (c.args.page * c.args.slots) c.args.slots c.args.self.now c.self.view_is fits))

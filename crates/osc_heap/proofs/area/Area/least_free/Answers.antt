@@ -1,5 +1,5 @@
 -- The least bit that is 0.
-use Rattle.std.proofs.Common.{◌≡◌, not, Bool, List, length, false, ap, sym, ◌∙◌, arith, ℕ, ◌≤◌}
+use Rattle.std.proofs.Common.{◌≡◌, not, Bool, List, length, false, ap, sym, ◌∙◌, arith, ℕ}
 use Rattle.osc_slot.specs.Least.{least}
 use Rattle.osc_frames.proofs.Rows.{length-numbers}
 use Rattle.osc_heap.specs.Layout.{has_as, bit_at}

@@ -1,5 +1,5 @@
 -- Each page is told to hold no block.
-use Rattle.std.proofs.Common.{◌≡◌, ◌<◌, ℕ, Bool, true, false, List, length, replicate, get_or, arith, refl, ap, ◌∙◌, sym}
+use Rattle.std.proofs.Common.{◌≡◌, ◌<◌, ℕ, Bool, true, false, List, length, replicate, get_or, arith, refl, ap, ◌∙◌}
 use Rattle.std.proofs.lemmas.List.{length-replicate, get_or-replicate}
 use Rattle.osc_frames.proofs.Rows.{same_lists}
 use Rattle.osc_heap.specs.Layout.{no_block_on}
