@@ -57,6 +57,7 @@ impl HartBox {
     }
 
     /// The frame of a page, if a translation of it allows this access.
+    #[inline(always)]
     pub fn look(&self, page: u64, access: Access) -> Look
         ensures seen { result ≡ look self.now.slots page access }
         ensures slots { length self.now.slots ≡ 32 }

@@ -57,6 +57,7 @@ impl Cache {
     }
 
     /// The frame of a page, if a translation of it allows this access.
+    #[inline(always)]
     pub fn look(&self, page: u64, access: Access) -> Look
         ensures seen { result ≡ look self.now page access }
         ensures miss { (result ≡ Miss) ↔ NoneAllows self.now page access }

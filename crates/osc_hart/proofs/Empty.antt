@@ -1,11 +1,10 @@
 -- A cache without an entry finds nothing.
-use Rattle.std.proofs.Common.{ℕ, zero, suc, ◌≡◌, ◌%◌, List, Option, None, refl, ap, replicate}
+use Rattle.std.proofs.Common.{ℕ, zero, suc, ◌≡◌, ◌%◌, None, refl, replicate}
 use Rattle.osc_sv39.specs.declared.entries.Access.{Access}
-use Rattle.osc_paging.specs.declared.CacheEntry.{CacheEntry}
 use Rattle.osc_paging.specs.declared.Look.TheVariants.{Miss}
-use Rattle.osc_paging.specs.Boxes.{no_entries, entry_in, look, seen_in}
+use Rattle.osc_paging.specs.Boxes.{no_entries, entry_in, look}
 
-no_entry : (count slot : ℕ) → entry_in (replicate count None) slot ≡ None
+pub no_entry : (count slot : ℕ) → entry_in (replicate count None) slot ≡ None
 no_entry zero slot = refl
 no_entry (suc count) zero = refl
 no_entry (suc count) (suc slot) = no_entry count slot

@@ -2,3 +2,4 @@ mod Powers
 mod Parts
 mod Empty
 mod Combined
+mod Ranges

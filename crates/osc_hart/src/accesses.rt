@@ -63,6 +63,7 @@ fn narrowed(width: Width, number: u64) -> u64
 }
 
 /// The access of an atomic instruction; None exactly for any other.
+#[inline(never)]
 fn atomic_at(instr: &Instr, address: u64, operand: u64) -> Option<MemoryAccess>
     ensures value { result ≡ accesses.atomic_at instr.now address operand }
     ensures formed { IfSome result IsFormed }
@@ -82,6 +83,7 @@ fn atomic_at(instr: &Instr, address: u64, operand: u64) -> Option<MemoryAccess>
 }
 
 /// The access of an instruction that does this; None where it makes none.
+#[inline(always)]
 pub fn access_of(instr: &Instr, done: &IntDone) -> Option<MemoryAccess>
     requires { DoneFits done.now }
     ensures value { result ≡ accesses.access_of instr.now done.now }

@@ -1,7 +1,7 @@
 //! What follows once the word of an instruction was loaded.
 
 use crate::accesses::{access_of, found_by, kind_of, misaligned};
-use crate::hart::UserHart;
+use crate::state::HartState;
 use crate::words::is_aligned;
 use osc_guest::{After, MemoryAccess, Place};
 use osc_int::{IntDone, int_step};
@@ -16,7 +16,7 @@ const BREAKPOINT: u8 = 3;
 /// The cause of a jump to an address that is not divisible by 4.
 pub const MISALIGNED_TARGET: u8 = 0;
 
-impl UserHart {
+impl HartState {
     ghost use Rattle.std.specs.Prelude.{◌≡◌};
     ghost use Rattle.osc_isa.specs.Traps as traps;
     ghost use Rattle.osc_rv.specs.Instr.{instr_of};
@@ -97,10 +97,10 @@ impl UserHart {
         requires untouched { self.old.touch ≡ None }
         ensures { made self.new result ≡ instructions.decoded (instr_of word) self.old.hart }
     {
-        match decode(word) {
+        match &decode(word) {
             Some(instr) => {
-                let done = int_step(&instr, &self.regs, self.pc);
-                self.execute(&instr, done)
+                let done = int_step(instr, &self.regs, self.pc);
+                self.execute(instr, done)
             }
             None => self.fail(),
         }

@@ -10,12 +10,15 @@ mod instructions;
 mod looking;
 mod pages;
 mod places;
+mod state;
+mod within;
 mod words;
 
 pub use answers::Told;
 pub use hart::UserHart;
 pub use osc_cache::HartBox;
 pub use osc_guest::{Ask, Touch};
+pub use within::{boxes_fit, stays_driven};
 
 #[cfg(test)]
 mod tests;

@@ -8,8 +8,8 @@ ghost use Rattle.osc_isa.specs.Integer as integer;
 ghost use Rattle.osc_guest.specs.Looking.{box_filled};
 
 use crate::accesses::{first_stage, kind_of, page_fault, page_of, reserved_version};
-use crate::hart::UserHart;
 use crate::pages::is_canonical;
+use crate::state::HartState;
 use osc_cache::{HartBox, Look};
 use osc_guest::{After, MemoryAccess, Place};
 use osc_sv39::{Access, Mapping, PteEntry, allows};
@@ -42,7 +42,7 @@ fn fill_in(held: &mut Option<HartBox>, page: u64, mapping: Mapping)
     }
 }
 
-impl UserHart {
+impl HartState {
     ghost use Rattle.std.specs.Prelude.{◌≡◌, ◌<◌};
     ghost use Rattle.osc_guest.specs.Looking as looking;
     ghost use Rattle.osc_hart.specs.Answers.{made};
@@ -50,11 +50,11 @@ impl UserHart {
 
     /// An access without a translation faults.
     #[inline(never)]
-    fn lose(&mut self, access: &MemoryAccess) -> Option<Choice>
+    fn lose(&mut self, access: MemoryAccess) -> Option<Choice>
         requires untouched { self.old.touch ≡ None }
-        ensures { made self.new result ≡ looking.lost access.now self.old.hart }
+        ensures { made self.new result ≡ looking.lost access self.old.hart }
     {
-        let touch = self.touch(access, false);
+        let touch = self.touch(&access, false);
         let choice = self.fault(page_fault(kind_of(access.what)), access.address);
         self.touch = Some(touch);
         choice
@@ -62,10 +62,10 @@ impl UserHart {
 
     /// A store-conditional that fails commits, and its register gets 1.
     #[inline(never)]
-    pub fn fail_conditional(&mut self, access: &MemoryAccess) -> Option<Choice>
-        requires register { access.now.rd < 32 }
+    pub fn fail_conditional(&mut self, access: MemoryAccess) -> Option<Choice>
+        requires register { access.rd < 32 }
         requires untouched { self.old.touch ≡ None }
-        ensures { made self.new result ≡ looking.sc_failed access.now self.old.hart }
+        ensures { made self.new result ≡ looking.sc_failed access self.old.hart }
     {
         self.regs.set(access.rd, 1);
         self.pc = next(self.pc);
@@ -92,7 +92,7 @@ impl UserHart {
                 };
                 None
             }
-            None => self.fail_conditional(access),
+            None => self.fail_conditional(*access),
         }
     }
 
@@ -106,7 +106,7 @@ impl UserHart {
     {
         let page = page_of(access);
         if !is_canonical(self.levels, page) {
-            return self.lose(access);
+            return self.lose(*access);
         }
         match look_in(&self.held, page, kind_of(access.what)) {
             Look::Hit(frame) => {
@@ -135,7 +135,7 @@ impl UserHart {
             fill_in(&mut self.held, page_of(access), mapping);
             self.reach(access, mapping.frame)
         } else {
-            self.lose(access)
+            self.lose(*access)
         }
     }
 
@@ -153,7 +153,7 @@ impl UserHart {
             };
             None
         } else {
-            self.lose(access)
+            self.lose(*access)
         }
     }
 
@@ -170,7 +170,7 @@ impl UserHart {
                 self.find_leaf(access, Mapping { frame, bits })
             }
             PteEntry::Table(frame) if level > 0 => self.find_link(access, level - 1, frame),
-            _ => self.lose(access),
+            _ => self.lose(*access),
         }
     }
 }

@@ -9,10 +9,10 @@ use crate::accesses::{
     choice_of, fetch_at, number_kept, page_of, reservation_after, word_place, word_stored,
 };
 use crate::answers::Told;
-use crate::hart::UserHart;
 use crate::instructions::MISALIGNED_TARGET;
 use crate::looking::next;
 use crate::pages::entry_index;
+use crate::state::HartState;
 use osc_cache::HartBox;
 use osc_guest::{After, Ask, MemoryAccess, Place, Stage, What};
 use osc_sv39::read_pte;
@@ -47,7 +47,7 @@ fn place_then(after: After) -> Place
     }
 }
 
-impl UserHart {
+impl HartState {
     ghost use Rattle.std.specs.Prelude.{◌≡◌, ◌<◌, true, Bool};
     ghost use Rattle.osc_paging.specs.Boxes.{BoxState};
     ghost use Rattle.osc_guest.specs.User as user;
@@ -140,7 +140,7 @@ impl UserHart {
     }
 
     /// The hart took its box.
-    #[inline(never)]
+    #[inline(always)]
     fn take_box(&mut self, hart_box: HartBox) -> Option<Choice>
         requires untouched { self.old.touch ≡ None }
         ensures { made self.new result ≡ definition.told_at self.old.hart.place self.old.hart (definition.Box hart_box) }
@@ -153,6 +153,7 @@ impl UserHart {
     }
 
     /// An access is done and commits, and the hart goes on at a place. It found this word.
+    #[inline(always)]
     fn complete(&mut self, access: &MemoryAccess, word: u64, place: Place) -> Option<Choice>
         requires formed { IsFormed access.now }
         requires place { PlaceFits place }
@@ -170,6 +171,7 @@ impl UserHart {
 
     /// An access is done under the gate of its frame, which had the version `found` and is left with
     /// the version `left`.
+    #[inline(always)]
     fn complete_gated(
         &mut self,
         access: &MemoryAccess,
@@ -194,6 +196,7 @@ impl UserHart {
     }
 
     /// The word was loaded under the gate: a load-reserved is done, all else stores.
+    #[inline(always)]
     fn load_gated(
         &mut self,
         access: &MemoryAccess,
@@ -243,7 +246,7 @@ impl UserHart {
     }
 
     /// A word was loaded.
-    #[inline(never)]
+    #[inline(always)]
     fn take_word(&mut self, word: u64) -> Option<Choice>
         requires untouched { self.old.touch ≡ None }
         ensures { made self.new result ≡ definition.told_at self.old.hart.place self.old.hart (definition.Word word) }
@@ -290,13 +293,13 @@ impl UserHart {
                 access,
                 stage: Stage::TakeGate { only: Some(_) },
                 ..
-            } => self.fail_conditional(&access),
+            } => self.fail_conditional(access),
             _ => None,
         }
     }
 
     /// The action was done.
-    #[inline(never)]
+    #[inline(always)]
     fn finish(&mut self) -> Option<Choice>
         requires untouched { self.old.touch ≡ None }
         ensures { made self.new result ≡ definition.told_at self.old.hart.place self.old.hart definition.Done }

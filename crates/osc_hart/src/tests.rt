@@ -1,15 +1,17 @@
 //! Programs of a few instructions, in a machine of 64 frames without a kernel. The code's page stands in
 //! frame 4, and the page of the data, 0x1000000000, in frame 22.
 
+ghost use Rattle.std.specs.Prelude.{◌≡◌, IfOk, IfSome};
 ghost use Rattle.osc_guest.specs.Fits.{Fits};
-ghost use Rattle.osc_guest.specs.Hands.{HandAgrees};
+ghost use Rattle.osc_guest.specs.Ranges.{BoxIn, OrderIn, StartIn, ToldIn};
 ghost use Rattle.osc_hart.specs.Answers.{said};
+ghost use Rattle.osc_hart.specs.Within.{Driven};
 
-use crate::{Ask, HartBox, Told, UserHart};
+use crate::{Ask, HartBox, Told, UserHart, boxes_fit, stays_driven};
 use osc_cache::has_32_slots;
-use osc_guest::{hands_move, places_ask, stays_exactly};
+use osc_guest::places_ask;
 use osc_word::{Access, Call, Fault, Order, Regs, Request, Resume, Start, WordAt};
-use std::alloc::AllocGlobal;
+use std::alloc::{AllocError, AllocGlobal, Global};
 use std::process::Abort;
 use std::test::Fail;
 
@@ -25,9 +27,20 @@ struct World {
     home: Option<HartBox>,
 }
 
+/// A new box, which names no frame.
+fn at_home(alloc: Global) -> Result<HartBox, AllocError>
+    ensures { IfOk result (BoxIn 64) }
+{
+    boxes_fit();
+    let hart_box = HartBox::new(alloc)?;
+    Ok(hart_box)
+}
+
 impl World {
     /// Tables, and the code.
-    fn new(rt: &(impl Abort + AllocGlobal), code: &[u64]) -> Result<World, Fail> {
+    fn new(rt: &(impl Abort + AllocGlobal), code: &[u64]) -> Result<World, Fail>
+        ensures { IfOk result (λ world. IfSome world.home (BoxIn 64)) }
+    {
         let mut words = vec![in rt.alloc(); 0; 64 * 512]?;
         for (at, word) in [
             (0, 0x401),
@@ -46,13 +59,14 @@ impl World {
         Ok(World {
             words,
             versions: vec![in rt.alloc(); 5; 64]?,
-            home: Some(HartBox::new(rt.alloc())?),
+            home: Some(at_home(rt.alloc())?),
         })
     }
 
     /// What a gate answers to a hart that takes it with this version only, or with any.
     fn take_gate(&self, rt: &impl Abort, frame: u32, only: Option<u64>) -> Told
-        ensures { Fits (Ask.TakeGate frame only) (said result) }
+        ensures fits { Fits (Ask.TakeGate frame only) (said result) }
+        ensures machine { ToldIn 64 (said result) }
     {
         assert!(rt; (frame as usize) < self.versions.len());
         let version = self.versions[frame as usize];
@@ -63,13 +77,19 @@ impl World {
         }
     }
 
-    /// Another hart stores in the data's frame.
-    fn store_elsewhere(&mut self, rt: &impl Abort) {
+    /// Another hart stores so often in the data's frame.
+    fn store_elsewhere(&mut self, rt: &impl Abort, times: u32)
+        ensures { self.new.home ≡ self.old.home }
+    {
         assert!(rt; 22 < self.versions.len() && self.versions[22] < 1000);
-        self.versions[22] += 1;
+        self.versions[22] += u64::from(times);
     }
 
-    fn tell(&mut self, order: Order) {
+    fn tell(&mut self, order: Order)
+        requires order { OrderIn 64 order }
+        requires home { IfSome self.old.home (BoxIn 64) }
+        ensures { IfSome self.new.home (BoxIn 64) }
+    {
         if let Some(hart_box) = &mut self.home {
             hart_box.set_order(order);
         }
@@ -77,7 +97,9 @@ impl World {
 }
 
 /// A thread at the code, with its data's address in a0 and a number in t0.
-fn start(pc: u64, a0: u64) -> Start {
+fn start(pc: u64, a0: u64) -> Start
+    ensures { StartIn 64 result }
+{
     let mut regs = Regs::new();
     regs.set(10, a0);
     regs.set(5, 9);
@@ -91,15 +113,41 @@ fn start(pc: u64, a0: u64) -> Start {
     }
 }
 
+/// The order, if a thread that it starts is one of this machine.
+fn of_machine(rt: &impl Abort, order: Order) -> Order
+    ensures { OrderIn 64 result }
+{
+    match order {
+        Order::Start(thread) => {
+            assert!(rt; thread.frames == 64 && thread.root < 64);
+            Order::Start(thread)
+        }
+        other => other,
+    }
+}
+
+/// A hart that runs a thread at this pc, with this address in a0, or an idle one.
+fn placed(running: bool, pc: u64, a0: u64, world: &World) -> UserHart
+    requires { IfSome world.now.home (BoxIn 64) }
+    ensures { Driven 64 result.hart world.now.home }
+{
+    stays_driven();
+    if running {
+        UserHart::begin(&start(pc, a0))
+    } else {
+        UserHart::idle()
+    }
+}
+
 /// Does what the hart asks for, and tells it so. A call returns the data's
 /// address.
 fn step(rt: &impl Abort, hart: &mut UserHart, world: &mut World)
-    requires { HandAgrees hart.old.hart }
-    ensures { HandAgrees hart.new.hart }
+    requires { Driven 64 hart.old.hart world.old.home }
+    ensures { Driven 64 hart.new.hart world.new.home }
 {
-    hands_move();
-    stays_exactly();
     places_ask();
+    boxes_fit();
+    stays_driven();
     match hart.ask() {
         Ask::TakeBox => {
             if let Some(hart_box) = world.home.take() {
@@ -139,8 +187,8 @@ fn step(rt: &impl Abort, hart: &mut UserHart, world: &mut World)
 
 /// The hart asks for exactly this, one after another.
 fn expect_asks(rt: &impl Abort, hart: &mut UserHart, world: &mut World, asks: &[Ask])
-    requires { HandAgrees hart.old.hart }
-    ensures { HandAgrees hart.new.hart }
+    requires { Driven 64 hart.old.hart world.old.home }
+    ensures { Driven 64 hart.new.hart world.new.home }
 {
     for ask in asks {
         assert_eq!(rt; hart.ask(), *ask);
@@ -149,14 +197,14 @@ fn expect_asks(rt: &impl Abort, hart: &mut UserHart, world: &mut World, asks: &[
 }
 
 fn expect_three(rt: &impl Abort, hart: &mut UserHart, world: &mut World, asks: [Ask; 3])
-    requires { HandAgrees hart.old.hart }
+    requires { Driven 64 hart.old.hart world.old.home }
 {
     expect_asks(rt, hart, world, &asks);
 }
 
 /// What the hart asks the kernel for, within 20 steps.
 fn request(rt: &impl Abort, hart: &mut UserHart, world: &mut World) -> Option<Request>
-    requires { HandAgrees hart.old.hart }
+    requires { Driven 64 hart.old.hart world.old.home }
 {
     'steps: for _ in 0..20 {
         if let Ask::Kernel(request) = hart.ask() {
@@ -200,7 +248,7 @@ const EACH_KIND: [u64; 4] = [
 #[test]
 fn each_kind(rt: HostRuntime) -> Result<(), Fail> {
     let mut world = World::new(&rt, &EACH_KIND)?;
-    let mut hart = UserHart::begin(&start(CODE, DATA));
+    let mut hart = placed(true, CODE, DATA, &world);
     expect_asks(
         &rt,
         &mut hart,
@@ -317,7 +365,7 @@ fn causes(rt: HostRuntime) -> Result<(), Fail> {
         (0x553023, CODE, CODE, 15, CODE),
     ] {
         let mut world = World::new(&rt, &[word])?;
-        let mut hart = UserHart::begin(&start(pc, a0));
+        let mut hart = placed(true, pc, a0, &world);
         let fault = Fault::Access { cause, address };
         assert_eq!(rt;
             request(&rt, &mut hart, &mut world),
@@ -339,13 +387,11 @@ fn causes(rt: HostRuntime) -> Result<(), Fail> {
 /// lr.d t1, (a0); the word here; sc.d a1, t0, (a0); ecall.
 fn reserved(rt: &(impl Abort + AllocGlobal), between: u64, stores: u32) -> Result<u64, Fail> {
     let mut world = World::new(rt, &[0x1005_332f | between << 32, 0x73_1855_35af])?;
-    let mut hart = UserHart::begin(&start(CODE, DATA));
+    let mut hart = placed(true, CODE, DATA, &world);
     'steps: for _ in 0..13 {
         step(rt, &mut hart, &mut world);
     }
-    'stores: for _ in 0..stores {
-        world.store_elsewhere(rt);
-    }
+    world.store_elsewhere(rt, stores);
     'others: for _ in 0..11 {
         step(rt, &mut hart, &mut world);
     }
@@ -393,12 +439,8 @@ fn orders(rt: HostRuntime) -> Result<(), Fail> {
         ),
     ] {
         let mut world = World::new(&rt, &[0x13])?;
-        world.tell(order);
-        let mut hart = if running {
-            UserHart::begin(&start(CODE, DATA))
-        } else {
-            UserHart::idle()
-        };
+        world.tell(of_machine(&rt, order));
+        let mut hart = placed(running, CODE, DATA, &world);
         expect_asks(&rt, &mut hart, &mut world, &[Ask::TakeBox]);
         expect_three(&rt, &mut hart, &mut world, asks);
     }

@@ -7,6 +7,7 @@ mod operation;
 mod step;
 
 pub use numbers::extended;
+pub use operation::{is_taken, op_of_imm, op_of_shift, op_of_shift_w, operate, store_width};
 pub use osc_isa::IntDone;
 pub use step::int_step;
 

@@ -1,5 +1,5 @@
 -- What an atomic memory operation stores has its width.
-use Rattle.std.proofs.Common.{◌≡◌, ◌^◌, ◌<◌}
+use Rattle.std.proofs.Common.{◌≡◌}
 use Rattle.osc_isa.specs.Atomic.{width_of}
 use Rattle.osc_hart.proofs.Combined.{amo_within}
 use Rattle.osc_hart.proofs.accesses.number_stored.Goals as goal

@@ -1,6 +1,6 @@
-use Rattle.osc_guest.specs.Hands.{HandAgrees}
+use Rattle.osc_hart.specs.Within.{Driven}
 use Rattle.osc_hart.proofs.tests.expect_asks.Given as goal
 
--- the hart holds its box from the taking to the giving
+-- hart and box stay within the machine
 abbrev pub invariant-loop-ask : goal.invariant-loop-ask
-invariant-loop-ask g l = HandAgrees l.hart.hart
+invariant-loop-ask g l = Driven 64 l.hart.hart l.world.home

@@ -1,5 +1,5 @@
 -- The power of a byte is below that of the word.
-use Rattle.std.proofs.Common.{◌≡◌, ◌*◌, ◌%◌, ◌^◌, ◌<◌, arith, ap, sym, ◌∙◌}
+use Rattle.std.proofs.Common.{◌*◌, ◌%◌, ◌^◌, ◌<◌, arith, ap, sym, ◌∙◌}
 use Rattle.std.proofs.Math.Nat.{mod-eq_of_lt}
 use Rattle.std.proofs.Math.Pow.{pow-lt}
 use Rattle.osc_hart.proofs.Powers.{pow_of_pow}

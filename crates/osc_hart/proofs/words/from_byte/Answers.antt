@@ -1,5 +1,5 @@
 -- Nothing is lost above: the bytes of a word stay within it.
-use Rattle.std.proofs.Common.{◌≡◌, ◌*◌, ◌/◌, ◌%◌, ◌^◌, ◌<◌, arith, sym, ap, ◌∙◌}
+use Rattle.std.proofs.Common.{◌*◌, ◌^◌, arith}
 use Rattle.std.proofs.Math.Nat.{mod-eq_of_lt, div-mul-le_self}
 use Rattle.osc_hart.proofs.Powers.{pow_of_pow}
 use Rattle.osc_hart.proofs.words.from_byte.Goals as goal
