@@ -1,6 +1,6 @@
 -- A fork: the copies are those of the plan, and what the child's parts ask for follows from the laws of
 -- copies and the agreement of the parts.
-use Rattle.std.proofs.Common.{ℕ, zero, suc, ◌≡◌, ◌≢◌, ◌<◌, ◌≤◌, ◌-◌, ◌/◌, ◌==◌, Bool, true, false, Some, None, List, [], ◌∷◌, ◌++◌, length, map, get_or, arith, refl, sym, subst, ap, ◌∙◌}
+use Rattle.std.proofs.Common.{ℕ, zero, suc, ◌≡◌, ◌≢◌, ◌<◌, ◌≤◌, ◌-◌, ◌/◌, ◌==◌, nat_lt, cond, Bool, true, false, Some, None, List, [], ◌∷◌, ◌++◌, length, map, get_or, arith, refl, sym, subst, ap, ◌∙◌}
 use Rattle.std.specs.Prelude.{All, is_some, slice_index}
 use Rattle.std.specs.List.{range_with_len}
 use Rattle.std.proofs.lemmas.Bool.Decides.{nat_tests}
@@ -29,9 +29,9 @@ use Rattle.osc_space.specs.Agree.{AreApart, AllTaken, frames_of, SpaceAgrees}
 use Rattle.osc_space.proofs.RefusalLawProofs.{fork_refused}
 use Rattle.osc_space.proofs.ForkLawProofs.{is_member, forks_apart, forks_copy_each}
 use Rattle.osc_fork.specs.declared.plan.ForkPlan.TheVariants.{Copied}
-use Rattle.osc_fork.specs.Names.{to_copy, AreMarked, mark_all, frames_between, MarksMore, AreBacked, AreFound, marked_copies, marked_frames}
+use Rattle.osc_fork.specs.Names.{Known, to_copy, AreMarked, mark_all, frames_between, MarksMore, AreBacked, AreFound, marked_copies, marked_frames}
 use Rattle.osc_fork.specs.Plan.{PartsAgree, space_of, Forking, forking, IsForkPlan}
-use Rattle.osc_fork.proofs.Known.{Known, known, marked_are, there, tables_taken_all}
+use Rattle.osc_fork.proofs.Known.{known, marked_are, there, tables_taken_all}
 use Rattle.osc_fork.proofs.Firsts.{not_below}
 use Rattle.osc_fork.proofs.MappedFrames.{get_small, index_of, taken_at, in_first, in_second, mapped_taken, table_private}
 
@@ -52,6 +52,11 @@ is_refused s free names few k over = (fork_refused s free).lack (subst (λ xs. f
 
 pub is_none : (s : Space) (free : List Bool) (names : List ℕ) → length free ≤ 4096 → Known s free names → length (marked_frames names) ≤ free_count free → first_reason (fork_reasons s free) ≡ None
 is_none s free names few k enough = (fork_refused s free).none (subst (λ xs. length xs ≤ free_count free) (marked_are s free names few k) enough)
+
+pub refused_by : (s : Space) (free : List Bool) (names : List ℕ) (lacks : Bool) → length free ≤ 4096 → Known s free names → lacks ≡ nat_lt (free_count free) (length (marked_frames names))
+    → first_reason (fork_reasons s free) ≡ cond lacks (Some answer.NoFrames) None
+refused_by s free names true few k e = is_refused s free names few k (grind (arith, nat_tests, e))
+refused_by s free names false few k e = is_none s free names few k (grind (arith, nat_tests, e))
 
 pub stands_for_itself : (s : Space) (free : List Bool) (names : List ℕ) → Known s free names → (frame : ℕ) → frame < length names → get_or names frame 0 ≢ to_copy → get_or names frame 0 ≡ frame
 stands_for_itself s free names k frame l ne = go (is_private s frame) refl

@@ -25,7 +25,7 @@ use Rattle.osc_space.specs.Share.{Regions, shared_frames}
 use Rattle.osc_space.specs.Fork.{table_frame_of, heap_frame_of, frame_of_page, image_frames, frames_owned, is_private, private_frames}
 use Rattle.osc_space.specs.Agree.{AllTaken, frames_of, HeapAgrees, SpaceAgrees}
 use Rattle.osc_space.proofs.ForkLawProofs.{is_member, block_member}
-use Rattle.osc_fork.specs.Names.{to_copy, AreMarked, mark_all, frames_between, MarksMore, AreBacked, AreFound, is_heap_frame, is_marked, marked_frames}
+use Rattle.osc_fork.specs.Names.{Known, to_copy, AreMarked, mark_all, frames_between, MarksMore, AreBacked, AreFound, is_heap_frame, is_marked, marked_frames}
 use Rattle.osc_fork.proofs.Blocks.{found_by_objects, found_as_mapped}
 use Rattle.osc_fork.proofs.Firsts.{not_below}
 use Rattle.osc_fork.proofs.MappedFrames.{get_small, taken_at, mapped_member}
@@ -214,12 +214,6 @@ private_is s frame =
     ∙ ap (λ b. b || is_member frame (image_frames s.tables)) (list_any-append (λ y. y == frame) (map table_frame_of s.tables.tables) (map heap_frame_of s.heap.pages))
 
 -- ---- all
--- each private frame is to be copied, and each other stands for itself
-pub record Known (s : Space) (free : List Bool) (names : List ℕ) : Type 0 where
-  pub size : length names ≡ length free
-  pub copied : (frame : ℕ) → frame < length free → is_private s frame ≡ true → get_or names frame 0 ≡ to_copy
-  pub others : (frame : ℕ) → frame < length free → is_private s frame ≡ false → get_or names frame 0 ≡ frame
-
 pub known : (kind : HeapKind) (s : Space) (regions : Regions) (free : List Bool) (names now : List ℕ) → length free ≤ 4096 → SpaceAgrees kind s regions free → AscendFrom 0 s.tables.pages → IsHeap s.heap
     → length names ≡ length free → AreMarked (λ frame. is_some (table_at s.tables frame)) names
     → MarksMore s.heap.pages (mark_all (frames_between 33554432 67108864 s.tables) (mark_all (frames_between 0 2097152 s.tables) names)) now

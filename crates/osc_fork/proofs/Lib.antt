@@ -3,6 +3,7 @@ pub mod Copying
 pub mod Firsts
 pub mod Fresh
 pub mod Forks
+pub mod Fitting
 pub mod FreeNumbers
 pub mod Known
 pub mod Low

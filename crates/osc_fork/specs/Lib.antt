@@ -6,3 +6,4 @@ pub use Rattle.osc_mark.specs.Grants
 pub use Rattle.osc_slot.specs.Heap
 pub mod Names
 pub mod Plan
+pub mod Fits

@@ -1,13 +1,14 @@
 -- The work space of a fork: what stands in it for each frame while the frames to be copied are found.
 -- It is this project's own.
-use Rattle.std.specs.Prelude.{ℕ, ◌+◌, ◌==◌, ◌≡◌, ◌<◌, ◌≤◌, Bool, true, List, [], ◌∷◌, map, filter, zip, length, slice_index, slice_set, Some, is_some, ◌⊎◌, if◌then◌else◌}
+use Rattle.std.specs.Prelude.{ℕ, ◌+◌, ◌==◌, ◌≡◌, ◌<◌, ◌≤◌, Bool, true, false, List, [], ◌∷◌, map, filter, zip, length, slice_index, slice_set, Some, is_some, ◌⊎◌, if◌then◌else◌}
 use Rattle.std.specs.List.{range_with_len, list_any}
 use Rattle.osc_word.specs.AddressMap.{is_within}
 use Rattle.osc_paging.specs.declared.Mapped.{Mapped}
 use Rattle.osc_paging.specs.KeptTables.{KeptTables}
 use Rattle.osc_slot.specs.declared.HeapPage.{HeapPage}
 use Rattle.osc_slot.specs.Heap.{frame_of}
-use Rattle.osc_space.specs.Fork.{frame_of_page, heap_frame_of, free_numbers}
+use Rattle.osc_space.specs.Space.{Space}
+use Rattle.osc_space.specs.Fork.{frame_of_page, heap_frame_of, free_numbers, is_private}
 
 -- it stands for a frame that is to be copied, and is the number of none
 abbrev pub to_copy : ℕ
@@ -63,3 +64,9 @@ marked_frames names = filter (is_marked names) (range_with_len 0 (length names))
 
 abbrev pub marked_copies : List ℕ → List Bool → List (ℕ × ℕ)
 marked_copies names free = zip (marked_frames names) (free_numbers free)
+
+-- each private frame is to be copied, and each other stands for itself
+pub record Known (s : Space) (free : List Bool) (names : List ℕ) : Type 0 where
+  pub size : length names ≡ length free
+  pub copied : (frame : ℕ) → frame < length free → is_private s frame ≡ true → slice_index names frame ≡ to_copy
+  pub others : (frame : ℕ) → frame < length free → is_private s frame ≡ false → slice_index names frame ≡ frame

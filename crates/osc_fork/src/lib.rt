@@ -6,7 +6,7 @@ mod copies;
 mod marking;
 mod plan;
 
-pub use plan::{ForkPlan, plan_fork};
+pub use plan::{ForkPlan, lacks_frames, plan_fork};
 
 #[cfg(test)]
 mod tests;

@@ -1,10 +1,17 @@
 //! The plan of a fork.
 
-ghost use Rattle.std.specs.Prelude.{◌≡◌, ◌≤◌, ℕ, List, length};
+ghost use Rattle.std.specs.Prelude.{◌≡◌, ℕ, List, None, Some, if◌then◌else◌, length, nat_lt};
+ghost use Rattle.osc_word.specs.declared.calls.Answer.TheVariants.{NoFrames};
+ghost use Rattle.osc_frames.specs.Free.{free_count};
 ghost use Rattle.osc_slot.specs.Heap.{empty_heap};
 ghost use Rattle.osc_paging.specs.KeptTables.{closed, levels_of};
 ghost use Rattle.osc_mark.specs.Grants.{no_grants};
 ghost use Rattle.osc_space.specs.Agree.{HasSpare};
+ghost use Rattle.osc_space.specs.Fork.{fork_reasons};
+ghost use Rattle.osc_space.specs.Space.{first_reason};
+ghost use Rattle.osc_tables.specs.Calls.{IsOrdered};
+ghost use Rattle.osc_fork.specs.Names.{Known, marked_frames};
+ghost use Rattle.osc_fork.specs.Fits.{FitsAfter};
 ghost use Rattle.osc_fork.specs.Plan.{IsForkPlan, PartsAgree, forking, space_of};
 
 use crate::copies::copy_frames;
@@ -25,11 +32,35 @@ pub enum ForkPlan {
     NoFrames,
 }
 
+/// Finds the private frames, which a fork copies, in a work space with a place for each frame of the
+/// machine. Whether they are more than the free ones: then, and only then, a fork is refused.
+pub fn lacks_frames(
+    tables: &Tables,
+    marks: &Marks,
+    heap: &CanonHeap,
+    frames: &Frames,
+    names: &mut [Frame],
+) -> bool
+    requires agrees { PartsAgree tables.now marks.now heap.now frames.now }
+    requires names { length names.old ≡ length frames.now }
+    ensures refused { (waiting : List ℕ) → first_reason (fork_reasons (space_of tables.now marks.now heap.now waiting) frames.now)
+        ≡ (if result then Some NoFrames else None) }
+    ensures known { (waiting : List ℕ) → Known (space_of tables.now marks.now heap.now waiting) frames.now names.new }
+    ensures count { result ≡ nat_lt (free_count frames.now) (length (marked_frames names.new)) }
+    ensures order { IsOrdered tables.now }
+{
+    mark_tables(tables, names);
+    mark_pages(tables, 0, FIRST_SHARED_PAGE, names);
+    mark_pages(tables, FIRST_CANONICAL_PAGE, CANONICAL_END_PAGE, names);
+    mark_objects(marks, heap, names);
+    count_marked(names) > frames.free_count() as usize
+}
+
 /// Plans a fork into the empty parts of a child, which have the parent's rooms and limits. `names` is
 /// a work space with a place for each frame of the machine; after Copied it has the child's frame for
 /// each frame of the parent that was copied, and each other frame stands for itself. It is NoFrames
 /// exactly where the private frames are more than the free ones, and changes nothing but the work
-/// space then.
+/// space then. After Copied the parts of both processes agree, with the regions that the child joins.
 pub fn plan_fork(
     tables: &Tables,
     marks: &Marks,
@@ -50,13 +81,12 @@ pub fn plan_fork(
     ensures plan { (waiting : List ℕ) → IsForkPlan (space_of tables.now marks.now heap.now waiting) result
         (forking child_tables.old child_marks.old child_heap.old frames.old jobs.old.pushed) names.new
         (forking child_tables.new child_marks.new child_heap.new frames.new jobs.new.pushed) }
+    ensures fits { (waiting : List ℕ) → FitsAfter (space_of tables.now marks.now heap.now waiting) result
+        (forking child_tables.old child_marks.old child_heap.old frames.old jobs.old.pushed) names.new
+        (forking child_tables.new child_marks.new child_heap.new frames.new jobs.new.pushed) }
     ensures room { jobs.new.room ≡ jobs.old.room }
 {
-    mark_tables(tables, names);
-    mark_pages(tables, 0, FIRST_SHARED_PAGE, names);
-    mark_pages(tables, FIRST_CANONICAL_PAGE, CANONICAL_END_PAGE, names);
-    mark_objects(marks, heap, names);
-    if count_marked(names) > frames.free_count() as usize {
+    if lacks_frames(tables, marks, heap, frames, names) {
         return ForkPlan::NoFrames;
     }
     copy_frames(tables, names, frames, jobs);

@@ -1,17 +1,14 @@
 -- The frames that pages and the stack need, counted page by page.
-use Rattle.std.proofs.Common.{ℕ, zero, suc, ◌≡◌, ◌+◌, ◌-◌, ◌*◌, ◌/◌, ◌<◌, ◌≤◌, ◌==◌, arith, refl, sym, ◌∙◌, ap, subst, Bool, true, false, not, ◌⊎◌, inl, inr, ◌||◌, List, [], ◌∷◌, ◌++◌, length, map, take, drop, get_or}
+use Rattle.std.proofs.Common.{ℕ, suc, ◌≡◌, ◌+◌, ◌-◌, ◌/◌, ◌<◌, ◌≤◌, ◌==◌, arith, refl, ◌∙◌, ap, true, false, ◌⊎◌, inl, inr, List, [], ◌∷◌, ◌++◌, length, map}
 use Rattle.std.proofs.Math.Nat.{div-mul-le_self}
 use Rattle.std.proofs.lemmas.Nat.{le-div}
-use Rattle.std.specs.Prelude.{if◌then◌else◌, IsTrue}
-use Rattle.std.specs.List.{list_any, range_with_len}
+use Rattle.std.specs.List.{list_any}
 use Rattle.std.proofs.lemmas.Bool.Decides.{nat_tests}
-use Rattle.std.proofs.lemmas.List.{map-append, take_more}
-use Rattle.std.proofs.Math.Seq as seq
 use Rattle.std.proofs.lemmas.List.Folds.{list_any-append}
 use Rattle.osc_sv39.specs.declared.flags.PteBits.{PteBits}
 use Rattle.osc_sv39.specs.Walk.{piece, IsLevels}
 use Rattle.osc_image.specs.Frames.{different, stack_pages, tables_below, table_count}
-use Rattle.osc_calls.specs.Open.{OpenPage, open_page}
+use Rattle.osc_calls.specs.Open.{OpenPage}
 use Rattle.osc_open.specs.Laying.{AreImagePages, frames_for, number_of_page, pages_of}
 use Rattle.osc_open.proofs.Different.{different-more}
 

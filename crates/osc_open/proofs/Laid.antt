@@ -1,29 +1,29 @@
 -- What laying pages keeps, page by page.
-use Rattle.std.proofs.Common.{ℕ, zero, suc, ◌≡◌, ◌≢◌, ◌<◌, ◌≤◌, ◌+◌, ◌-◌, ◌*◌, ◌/◌, ◌%◌, ◌^◌, ◌==◌, Bool, true, false, cond, Option, Some, None, List, [], ◌∷◌, ◌++◌, length, map, position, arith, refl, ap, sym, subst, ◌∙◌}
-use Rattle.std.specs.Prelude.{IsSome, IsTrue, slice_set, if◌then◌else◌}
+use Rattle.std.proofs.Common.{ℕ, suc, ◌≡◌, ◌<◌, ◌≤◌, ◌+◌, ◌-◌, ◌*◌, ◌/◌, ◌^◌, ◌==◌, Bool, false, Option, Some, None, List, [], ◌∷◌, ◌++◌, length, map, position, arith, refl, ap, sym, subst, ◌∙◌}
+use Rattle.std.specs.Prelude.{IsSome, IsTrue, slice_set}
 use Rattle.std.proofs.lemmas.Bool.Decides.{nat_tests}
 use Rattle.osc_word.specs.JobList.{JobList, spare}
 use Rattle.osc_sv39.specs.declared.entries.Mapping.{Mapping}
-use Rattle.osc_sv39.specs.Walk.{piece, is_canonical, number_of}
+use Rattle.osc_sv39.specs.Walk.{piece, number_of}
 use Rattle.osc_sv39.specs.ReadBack.{is_leaf}
 use Rattle.osc_sv39.proofs.EntriesBack.{leaves_read_back}
 use Rattle.osc_frames.specs.Free.{free_count, least_free, without_frame}
 use Rattle.osc_paging.specs.Agree.{ReadsAsLeaf}
-use Rattle.osc_paging.specs.KeptTables.{KeptTables, levels_of, root_of, mapping_at, mapping_of, frame_of, need}
+use Rattle.osc_paging.specs.KeptTables.{KeptTables, levels_of, root_of, mapping_of, frame_of, need}
 use Rattle.osc_paging.specs.TableChanges.{Changed, link_all, leaf_put, put_leaf, map_page}
 use Rattle.osc_paging.specs.TableLaws.{MapsPage}
 use Rattle.osc_paging.proofs.Needed.{Grown, link_all-grown, put-tables}
 use Rattle.osc_paging.proofs.TableLawProofs.{mapping_takes_need, piece-top}
 use Rattle.osc_space.specs.LeafFlags.{leaf_of_page}
-use Rattle.osc_calls.specs.Open.{OpenPage, laid, lay, lay_all}
+use Rattle.osc_calls.specs.Open.{OpenPage, lay, lay_all}
 use Rattle.osc_tables.specs.Inside.{IsTop}
-use Rattle.osc_tables.specs.Calls.{HasTaken, IsOpen, changed}
+use Rattle.osc_tables.specs.Calls.{HasTaken, changed}
 use Rattle.osc_share.proofs.FreeNumbers.{stays_taken, set_length}
 use Rattle.osc_share.proofs.Low.{IsLow, low_page, reach}
 use Rattle.osc_share.proofs.Lengths.{Pushes, map_pushes, map_pages_more}
 use Rattle.osc_open.specs.Laying.{number_of_page}
-use Rattle.osc_open.specs.Row.{AreLow, CanLay, first_taken, lacking}
-use Rattle.osc_open.proofs.First.{least_is, next_taken, count_is, TakesFirst, link_all_first}
+use Rattle.osc_open.specs.Row.{CanLay, first_taken, lacking}
+use Rattle.osc_open.proofs.First.{least_is, next_taken, count_is, link_all_first}
 use Rattle.osc_open.proofs.Lacking.{lacking_less, need_least}
 
 -- the mapping of the first one

@@ -1,5 +1,5 @@
 -- Laying one page after another, as the code goes.
-use Rattle.std.proofs.Common.{ℕ, zero, suc, ◌≡◌, ◌<◌, ◌≤◌, ◌+◌, ◌-◌, Bool, List, [], ◌∷◌, ◌++◌, length, map, drop, get_or, arith, refl, ap, sym, subst, ◌∙◌}
+use Rattle.std.proofs.Common.{ℕ, suc, ◌≡◌, ◌<◌, ◌≤◌, ◌+◌, ◌-◌, Bool, List, [], ◌∷◌, length, drop, get_or, arith, refl, ap, sym, subst, ◌∙◌}
 use Rattle.std.proofs.Math.Seq as seq
 use Rattle.osc_word.specs.JobList.{JobList}
 use Rattle.osc_sv39.specs.declared.flags.PteBits.{PteBits}
@@ -9,10 +9,10 @@ use Rattle.osc_frames.specs.Free.{free_count, least_free, without_frame}
 use Rattle.osc_paging.specs.KeptTables.{KeptTables, levels_of, need}
 use Rattle.osc_paging.specs.TableChanges.{map_page}
 use Rattle.osc_space.specs.LeafFlags.{leaf_of_page}
-use Rattle.osc_calls.specs.Open.{OpenPage, open_page, lay_all}
+use Rattle.osc_calls.specs.Open.{OpenPage, open_page}
 use Rattle.osc_tables.specs.Calls.{HasTaken, changed}
 use Rattle.osc_open.specs.Laying.{pages_of}
-use Rattle.osc_open.specs.Row.{CanLay, CanLayFirst, alike, with_stack}
+use Rattle.osc_open.specs.Row.{CanLay, alike, with_stack}
 use Rattle.osc_open.proofs.Laid.{own_mapping, can_lay_one, CanLayOne, LaysOne, lays_one}
 
 -- the mapping that the code makes

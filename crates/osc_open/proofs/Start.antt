@@ -1,5 +1,5 @@
 -- What holds at the start: all pages can be laid where their frames are enough.
-use Rattle.std.proofs.Common.{ℕ, zero, suc, ◌≡◌, ◌<◌, ◌≤◌, ◌+◌, ◌-◌, ◌*◌, ◌==◌, Bool, true, false, Option, Some, None, List, [], ◌∷◌, ◌++◌, length, map, position, replicate, arith, refl, ap, sym, subst, ◌∙◌, length-append, cond}
+use Rattle.std.proofs.Common.{ℕ, zero, suc, ◌≡◌, ◌<◌, ◌≤◌, ◌+◌, ◌-◌, ◌*◌, ◌==◌, Bool, true, false, Option, Some, None, List, [], ◌∷◌, ◌++◌, length, map, replicate, arith, refl, ap, sym, subst, ◌∙◌, length-append, cond}
 use Rattle.std.specs.Prelude.{IsSome, IsTrue, slice_set, slice_get}
 use Rattle.std.proofs.lemmas.Bool.Decides.{nat_tests}
 use Rattle.std.proofs.Common.{rules}
@@ -13,10 +13,10 @@ use Rattle.osc_sv39.specs.ReadBack.{is_leaf}
 use Rattle.osc_sv39.specs.Walk.{IsLevels, piece}
 use Rattle.osc_image.specs.Frames.{different, stack_pages, tables_below}
 use Rattle.osc_paging.specs.declared.Piece.{Piece}
-use Rattle.osc_paging.specs.KeptTables.{KeptTables, closed, frame_of, piece_of, root_of}
+use Rattle.osc_paging.specs.KeptTables.{KeptTables, closed, frame_of, piece_of}
 use Rattle.osc_paging.specs.TableChanges.{Changed, opened, table_frame}
 use Rattle.osc_space.specs.LeafFlags.{leaf_of_page}
-use Rattle.osc_calls.specs.Open.{OpenPage, open_page, all_pages, lay_all, rooted}
+use Rattle.osc_calls.specs.Open.{OpenPage, all_pages, lay_all, rooted}
 use Rattle.osc_tables.specs.Calls.{HasTaken, IsClosed, changed}
 use Rattle.osc_share.proofs.FreeNumbers.{set_length}
 use Rattle.osc_open.specs.Laying.{AreImagePages, frames_for, number_of_page}

@@ -1,7 +1,6 @@
 -- Laying pages one after another, while the first frames are taken and the others are free. This
 -- project's own.
 use Rattle.std.specs.Prelude.{ℕ, zero, suc, ◌+◌, ◌-◌, ◌*◌, ◌≡◌, ◌<◌, ◌≤◌, Bool, true, false, None, List, [], ◌∷◌, length, map, filter, is_none, replicate, IsTrue}
-use Rattle.std.specs.List.{range_with_len}
 use Rattle.osc_word.specs.JobList.{JobList, spare}
 use Rattle.osc_frames.specs.Free.{free_count}
 use Rattle.osc_sv39.specs.declared.flags.PteBits.{PteBits}

@@ -108,3 +108,8 @@ pub fn open_tables(
     lay_out(pages, config, tables, frames, jobs);
     Ok(())
 }
+
+#[cfg(test)]
+mod test_words;
+#[cfg(test)]
+mod tests;

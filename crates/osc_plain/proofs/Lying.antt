@@ -1,10 +1,9 @@
 -- Where a block lies, and what the agreement of the parts gives a plan.
 use Rattle.std.proofs.Common.{ℕ, ◌+◌, ◌*◌, ◌/◌, ◌^◌, ◌≡◌, ◌<◌, ◌≤◌, ◌++◌, Bool, true, false, List, [], ◌∷◌, Option, Some, None, arith, refl, ap, sym, subst, ◌∙◌, length, map}
-use Rattle.std.specs.Prelude.{is_some, nat_lt, option_map}
+use Rattle.std.specs.Prelude.{is_some, option_map}
 use Rattle.std.proofs.lemmas.Bool.Decides.{nat_tests}
 use Rattle.std.proofs.lemmas.Nat.{mul-le}
 use Rattle.osc_word.specs.AddressMap.{is_canonical_page}
-use Rattle.osc_word.specs.declared.settings.HeapKind.TheVariants.{Plain}
 use Rattle.osc_class.specs.declared.Room.{Room}
 use Rattle.osc_class.specs.declared.Room.TheVariants.{Small, Pages}
 use Rattle.osc_class.specs.Rooms.{IsRoom, block_bytes, shadow_pages}
@@ -22,10 +21,9 @@ use Rattle.osc_slot.proofs.Releasing.{last}
 use Rattle.osc_heap.proofs.Decode.{area_most}
 use Rattle.osc_paging.specs.KeptTables.{KeptTables, mapping_at}
 use Rattle.osc_space.specs.LeafFlags.{read_write_at}
-use Rattle.osc_space.specs.Space.{Space}
 use Rattle.osc_space.specs.Fork.{table_frame_of, heap_frame_of, frames_owned, image_frames}
-use Rattle.osc_space.specs.Share.{Regions, shared_frames}
-use Rattle.osc_space.specs.Agree.{SpaceAgrees, AllTaken, frames_of}
+use Rattle.osc_space.specs.Share.{shared_frames}
+use Rattle.osc_space.specs.Agree.{AllTaken}
 use Rattle.osc_space.specs.BlockWords.{whole_end}
 use Rattle.osc_shadow.specs.Pieces.{pieces}
 use Rattle.osc_shadow.proofs.Granted.{few_pieces}

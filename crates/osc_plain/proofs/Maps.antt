@@ -26,7 +26,7 @@ use Rattle.osc_paging.proofs.Needed.{link_all-pages}
 use Rattle.osc_paging.proofs.TableLists.{mapping_at-with_page}
 use Rattle.osc_tables.specs.Calls.{changed, AllCanonical, IsOrdered}
 use Rattle.osc_tables.specs.Inside.{IsTop}
-use Rattle.osc_space.specs.Space.{Draft, with_changed}
+use Rattle.osc_space.specs.Space.{with_changed}
 use Rattle.osc_space.specs.BlockWords.{block_mappings, mappings_of, zero_block, header_jobs}
 use Rattle.osc_space.specs.Malloc.{fill_block}
 use Rattle.osc_space.specs.PlainHeap.{map_blocks, place_plain}

@@ -1,5 +1,5 @@
 -- The pages that a block leaves are unmapped.
-use Rattle.std.proofs.Common.{ℕ, zero, suc, ◌+◌, ◌/◌, ◌≡◌, ◌<◌, ◌≤◌, ◌++◌, ◌&&◌, nat_le, nat_lt, Bool, true, false, not, if◌then◌else◌, List, [], ◌∷◌, arith, refl, ap, sym, subst, ◌∙◌, length, filter}
+use Rattle.std.proofs.Common.{ℕ, zero, suc, ◌+◌, ◌/◌, ◌≡◌, ◌<◌, ◌≤◌, ◌++◌, Bool, true, false, not, if◌then◌else◌, List, [], ◌∷◌, arith, refl, ap, sym, ◌∙◌, length, filter}
 use Rattle.std.specs.Prelude.{is_some}
 use Rattle.std.specs.List.{range_with_len}
 use Rattle.std.proofs.lemmas.Bool.Decides.{nat_tests}
@@ -10,14 +10,13 @@ use Rattle.osc_slot.specs.declared.Block.{Block}
 use Rattle.osc_slot.specs.Slots.{is_held, is_on, is_covered}
 use Rattle.osc_slot.specs.Heap.{Heap, IsHeap, without_block}
 use Rattle.osc_paging.specs.KeptTables.{KeptTables, mapping_at}
-use Rattle.osc_paging.specs.TableChanges.{Changed}
 use Rattle.osc_tables.specs.Calls.{changed, IsOrdered}
 use Rattle.osc_space.specs.Space.{Draft, push, change, with_changed}
 use Rattle.osc_space.specs.Free.{clear_jobs, unmap_all}
 use Rattle.osc_space.specs.PlainHeap.{emptied_pages, unmap_emptied, let_go_plain}
 use Rattle.osc_shadow.specs.Unmapping.{CanUnmap}
 use Rattle.osc_plain.specs.Plan.{draft}
-use Rattle.osc_plain.proofs.Lying.{Lies, held_lies, held_few}
+use Rattle.osc_plain.proofs.Lying.{held_lies, held_few}
 
 -- the pages are so many in a row
 abbrev pub AreAlone : Heap → Block → ℕ → Type 0

@@ -6,9 +6,11 @@
 mod blocks;
 
 ghost use Rattle.std.specs.Prelude.{ℕ, ◌≡◌, ◌≤◌, Bool, List, length};
+ghost use Rattle.osc_word.specs.declared.settings.HeapKind.TheVariants.{Plain};
 ghost use Rattle.osc_slot.specs.Heap.{block_of_user};
 ghost use Rattle.osc_space.specs.Agree.{HasSpare};
 ghost use Rattle.osc_space.specs.PlainHeap.{plain_malloc_plan, plain_free_plan, plain_realloc_plan};
+ghost use Rattle.osc_shadow.specs.Fits.{FitsAfter};
 ghost use Rattle.osc_plain.specs.Plan.{PartsAgree, PartsAgreeOnFrames, draft, malloced_now, freed_now, realloced_now};
 
 use crate::blocks::{give_block, is_room, kept_bytes, lacks_frames, let_go, move_block};
@@ -47,7 +49,7 @@ pub enum PlainRealloced {
 
 /// Plans a malloc of `n` bytes: the next block of its room, at its canonical address. It is NoFrames
 /// exactly where the frames of its pages and of the tables missing over them are more than the free
-/// ones, and changes nothing then.
+/// ones, and changes nothing then. The parts agree again when the call returns.
 #[tactic(auto, unfolding(osc_space::specs::PlainHeap::plain_malloc_plan))]
 pub fn plain_malloc(
     tables: &mut Tables,
@@ -60,6 +62,8 @@ pub fn plain_malloc(
     requires spare { HasSpare jobs.old (length frames.old) }
     ensures plan { (shadows : ℕ) → malloced_now result (draft shadows tables.new heap.new frames.new jobs.new.pushed)
         ≡ plain_malloc_plan n (draft shadows tables.old heap.old frames.old jobs.old.pushed) }
+    ensures fits { (batch shadows : ℕ) → FitsAfter Plain batch (draft shadows tables.old heap.old frames.old jobs.old.pushed)
+        (malloced_now result (draft shadows tables.new heap.new frames.new jobs.new.pushed)) }
     ensures room { jobs.new.room ≡ jobs.old.room }
 {
     let room = room_of(n);
@@ -74,7 +78,7 @@ pub fn plain_malloc(
 
 /// Plans a free: the pages of the block that hold no other are unmapped. The block is given back when
 /// the call returns. It is NotAnObject exactly where no held block has this user address, and changes
-/// nothing then.
+/// nothing then. The parts agree again when the call has returned.
 #[tactic(auto, unfolding(osc_space::specs::PlainHeap::plain_free_plan))]
 pub fn plain_free(
     tables: &mut Tables,
@@ -89,6 +93,8 @@ pub fn plain_free(
     ensures plan { (shadows : ℕ) (free : List Bool)
         → freed_now result (block_of_user heap.old.held pointer) (draft shadows tables.new heap.new free jobs.new.pushed)
         ≡ plain_free_plan harts pointer (draft shadows tables.old heap.old free jobs.old.pushed) }
+    ensures fits { (batch shadows : ℕ) (free : List Bool) → FitsAfter Plain batch (draft shadows tables.old heap.old free jobs.old.pushed)
+        (freed_now result (block_of_user heap.old.held pointer) (draft shadows tables.new heap.new free jobs.new.pushed)) }
     ensures room { jobs.new.room ≡ jobs.old.room }
 {
     let Some(block) = heap.block_at(pointer) else {
@@ -100,7 +106,8 @@ pub fn plain_free(
 
 /// Plans a realloc to `n` bytes; `size` is the second word of the block's header, as it was found. The
 /// block stays exactly where the room stays; else it is a malloc, a copy of the common bytes, and a
-/// free. NotAnObject is tried first; a refusal changes nothing.
+/// free. NotAnObject is tried first; a refusal changes nothing. The parts agree again when the call
+/// has returned.
 #[tactic(auto, unfolding(osc_space::specs::PlainHeap::plain_realloc_plan))]
 pub fn plain_realloc(
     tables: &mut Tables,
@@ -118,6 +125,8 @@ pub fn plain_realloc(
     ensures plan { (shadows : ℕ)
         → realloced_now result n (block_of_user heap.old.held pointer) (draft shadows tables.new heap.new frames.new jobs.new.pushed)
         ≡ plain_realloc_plan harts pointer n size (draft shadows tables.old heap.old frames.old jobs.old.pushed) }
+    ensures fits { (batch shadows : ℕ) → FitsAfter Plain batch (draft shadows tables.old heap.old frames.old jobs.old.pushed)
+        (realloced_now result n (block_of_user heap.old.held pointer) (draft shadows tables.new heap.new frames.new jobs.new.pushed)) }
     ensures room { jobs.new.room ≡ jobs.old.room }
 {
     let Some(old) = heap.block_at(pointer) else {
@@ -137,3 +146,8 @@ pub fn plain_realloc(
         pointer: block.start + HEADER,
     }
 }
+
+#[cfg(test)]
+mod test_words;
+#[cfg(test)]
+mod tests;

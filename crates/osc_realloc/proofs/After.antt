@@ -1,22 +1,21 @@
 -- What the unmapping of an object's pages and the giving up of leaf tables leave of the tables.
-use Rattle.std.proofs.Common.{ℕ, zero, suc, ◌+◌, ◌-◌, ◌*◌, ◌/◌, ◌^◌, ◌≡◌, ◌≢◌, ◌<◌, ◌≤◌, ◌==◌, ◌&&◌, ◌||◌, ◌⊎◌, inl, inr, ⊎_elim, Bool, true, false, cond, List, [], ◌∷◌, ◌++◌, Option, Some, None, arith, refl, ap, sym, subst, ◌∙◌, length}
-use Rattle.std.specs.Prelude.{filter, nat_le}
-use Rattle.std.specs.List.{list_any, range_with_len}
+use Rattle.std.proofs.Common.{ℕ, zero, suc, ◌+◌, ◌-◌, ◌*◌, ◌/◌, ◌≡◌, ◌<◌, ◌≤◌, ◌==◌, ◌&&◌, ◌||◌, ◌⊎◌, inl, inr, ⊎_elim, Bool, true, false, cond, List, [], ◌∷◌, ◌++◌, Option, Some, None, arith, refl, ap, sym, subst, ◌∙◌, length}
+use Rattle.std.specs.Prelude.{filter}
+use Rattle.std.specs.List.{list_any}
 use Rattle.std.proofs.lemmas.Bool.Decides.{nat_tests}
 use Rattle.osc_frames.specs.Free.{IsTaken, free_count}
 use Rattle.osc_word.specs.JobList.{JobList}
-use Rattle.osc_sv39.specs.declared.entries.Mapping.{Mapping}
 use Rattle.osc_sv39.specs.Walk.{piece}
 use Rattle.osc_paging.specs.declared.Mapped.{Mapped}
 use Rattle.osc_paging.specs.declared.Piece.{Piece}
 use Rattle.osc_paging.specs.declared.TableFrame.{TableFrame}
-use Rattle.osc_paging.specs.KeptTables.{KeptTables, frame_of, piece_of, mapping_at, root_of, is_piece, missing, need, need_below, pieces_over, lack}
-use Rattle.osc_paging.specs.TableChanges.{Changed, leaf_cleared, unlinked, reclaim, unmap_page, without_page, without_table, table_frame}
-use Rattle.osc_paging.proofs.TableLists.{frame_of-without_table, mapping_at-without_page, piece_of-push}
+use Rattle.osc_paging.specs.KeptTables.{KeptTables, frame_of, piece_of, mapping_at, root_of, is_piece, missing, need, need_below, pieces_over}
+use Rattle.osc_paging.specs.TableChanges.{Changed, unlinked, reclaim, unmap_page, without_page, without_table, table_frame}
+use Rattle.osc_paging.proofs.TableLists.{frame_of-without_table, mapping_at-without_page}
 use Rattle.osc_paging.proofs.Needed.{piece_mono}
 use Rattle.osc_tables.specs.Calls.{HasTaken, IsOpen, changed}
 use Rattle.osc_tables.specs.Inside.{IsTop}
-use Rattle.osc_space.specs.Free.{reclaim_all, unmap_all, linked_leaves, clear_jobs}
+use Rattle.osc_space.specs.Free.{reclaim_all, unmap_all, linked_leaves}
 use Rattle.osc_space.specs.declared.ObjectFact.{ObjectFact}
 use Rattle.osc_space.specs.Objects.{leaf_dead}
 use Rattle.osc_shadow.specs.Flushing.{flushed, is_over, leaves_over}

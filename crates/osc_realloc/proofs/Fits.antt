@@ -6,7 +6,7 @@ use Rattle.osc_class.specs.declared.Room.{Room}
 use Rattle.osc_class.specs.Rooms.{IsRoom, room_of, shadow_pages}
 use Rattle.osc_slot.specs.declared.Block.{Block}
 use Rattle.osc_slot.specs.Slots.{is_room}
-use Rattle.osc_slot.specs.Heap.{Heap, free_count, place}
+use Rattle.osc_slot.specs.Heap.{Heap, free_count}
 use Rattle.osc_slot.proofs.Backing.{free_count-le}
 use Rattle.osc_slot.proofs.HeldBlocks.{same_room}
 use Rattle.osc_paging.specs.KeptTables.{KeptTables, need}
@@ -20,7 +20,7 @@ use Rattle.osc_space.specs.Agree.{HasSpare, is_waiting, IsKept}
 use Rattle.osc_space.specs.Realloc.{stays}
 use Rattle.osc_shadow.specs.Parts.{space_of, PartsAgree, memory_refusal}
 use Rattle.osc_shadow.specs.Mapping.{CanMap}
-use Rattle.osc_shadow.proofs.Agreed.{agreed, pages_fit, fresh_unmapped, place_takes}
+use Rattle.osc_shadow.proofs.Agreed.{agreed, pages_fit, fresh_unmapped}
 use Rattle.osc_shadow.proofs.Granted.{enough, few_block_pages, can_map_block}
 use Rattle.osc_realloc.specs.Blocks.{new_block, newly_taken, placed}
 use Rattle.osc_realloc.specs.Replaced.{Replaced}

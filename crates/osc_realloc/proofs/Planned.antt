@@ -14,7 +14,7 @@ use Rattle.osc_space.specs.Objects.{Seen, object_at}
 use Rattle.osc_space.specs.Header.{Found, damage_reason, death_reasons}
 use Rattle.osc_space.specs.Space.{Draft, Terms, Reason, first_reason, unless}
 use Rattle.osc_space.specs.Malloc.{memory_reasons}
-use Rattle.osc_space.specs.Realloc.{stays, frames_for, realloc_made, realloc_reasons, realloc_seen, realloc_plan}
+use Rattle.osc_space.specs.Realloc.{stays, frames_for, realloc_made, realloc_seen, realloc_plan}
 use Rattle.osc_shadow.specs.Parts.{draft_of, memory_refusal}
 use Rattle.osc_realloc.specs.Blocks.{newly_taken}
 

@@ -1,7 +1,6 @@
 -- What stands between the tables before an object is replaced and after: its pages are unmapped, and
 -- then objects are let go. This project's own.
 use Rattle.std.specs.Prelude.{ℕ, ◌≡◌, Bool, List}
-use Rattle.std.specs.List.{range_with_len}
 use Rattle.osc_word.specs.declared.job_list.Job.{Job}
 use Rattle.osc_paging.specs.KeptTables.{KeptTables}
 use Rattle.osc_tables.specs.Calls.{changed}

@@ -11,3 +11,8 @@ mod realloc;
 
 pub use answer::Realloced;
 pub use realloc::plan_realloc;
+
+#[cfg(test)]
+mod test_words;
+#[cfg(test)]
+mod tests;

@@ -1,12 +1,14 @@
 //! The plan of a realloc.
 
 ghost use Rattle.std.specs.Prelude.{ℕ, ◌≡◌, ◌<◌, ◌≤◌, Some, None, true, length};
+ghost use Rattle.osc_word.specs.declared.settings.HeapKind.TheVariants.{Oscar};
 ghost use Rattle.osc_class.specs.Rooms.{room_of, shadow_pages};
 ghost use Rattle.osc_mark.specs.Grants.{AreMarked, lives};
 ghost use Rattle.osc_space.specs.Agree.{HasSpare};
 ghost use Rattle.osc_space.specs.Header.{header_in};
 ghost use Rattle.osc_space.specs.Objects.{fact};
 ghost use Rattle.osc_space.specs.Realloc.{realloc_made, realloc_plan, stays};
+ghost use Rattle.osc_shadow.specs.Fits.{FitsAfter};
 ghost use Rattle.osc_shadow.specs.Parts.{PartsAgree, draft_of, memory_refusal};
 ghost use Rattle.osc_shadow.specs.Sight.{GivesWords, seen_of};
 ghost use Rattle.osc_realloc.specs.Blocks.{newly_taken};
@@ -98,6 +100,9 @@ pub fn plan_realloc(
         result (draft_of tables.new marks.new heap.new waiting.now frames.new jobs.new.pushed)
         ≡ realloc_plan (terms harts call batch) pointer n (found_of found)
         (draft_of tables.old marks.old heap.old waiting.now frames.old jobs.old.pushed) }
+    ensures fits { (batch : ℕ) → FitsAfter Oscar batch (draft_of tables.old marks.old heap.old waiting.now frames.old jobs.old.pushed)
+        (realloced n (draft_of tables.old marks.old heap.old waiting.now frames.old jobs.old.pushed)
+        result (draft_of tables.new marks.new heap.new waiting.now frames.new jobs.new.pushed)) }
     ensures object { IsDamagedAt marks.old.objects pointer result }
     ensures room { jobs.new.room ≡ jobs.old.room }
 {

@@ -2,6 +2,7 @@
 
 ghost use Rattle.std.specs.Prelude.{◌≡◌, ◌+◌, ◌<◌, ◌≤◌, ◌==◌, Bool, List, Some, All, length, true, if◌then◌else◌};
 ghost use Rattle.osc_word.specs.JobList.{spare};
+ghost use Rattle.osc_word.specs.declared.settings.HeapKind.TheVariants.{Oscar};
 ghost use Rattle.osc_slot.specs.Heap.{Heap};
 ghost use Rattle.osc_tables.specs.Calls.{changed};
 ghost use Rattle.osc_tables.specs.Inside.{IsTop, InOrder};
@@ -10,6 +11,7 @@ ghost use Rattle.osc_space.specs.Agree.{HasSpare};
 ghost use Rattle.osc_space.specs.Header.{header_in};
 ghost use Rattle.osc_space.specs.Objects.{fact, facts};
 ghost use Rattle.osc_space.specs.Free.{free_plan, freed, let_wait};
+ghost use Rattle.osc_shadow.specs.Fits.{FitsAfter};
 ghost use Rattle.osc_shadow.specs.Flushing.{ShowsLive, flushed, leaves_over};
 ghost use Rattle.osc_shadow.specs.Parts.{PartsAgreeOnHeap, draft_of};
 ghost use Rattle.osc_shadow.specs.Sight.{GivesWords, seen_of};
@@ -91,7 +93,8 @@ fn free_object(
 /// Plans a free of a live object, the words of whose header were found as given. It is refused where
 /// a word differs from what is kept; that changes nothing. Otherwise the object is dead by this call,
 /// its pages are unmapped, and it is the last that waits. Where as many wait as a batch has, all are
-/// let go: dead leaf tables over them are given up, and every box is to be cleared.
+/// let go: dead leaf tables over them are given up, and every box is to be cleared. The parts agree
+/// again when the call has returned, and with it what was let go.
 pub fn plan_free(
     tables: &mut Tables,
     marks: &mut Marks,
@@ -113,6 +116,9 @@ pub fn plan_free(
         → freed_now result (draft_of tables.new marks.new heap waiting.new free jobs.new.pushed)
         ≡ free_plan (terms harts call batch) pointer (found_of found)
         (draft_of tables.old marks.old heap waiting.old free jobs.old.pushed) }
+    ensures fits { (heap : Heap) (free : List Bool)
+        → FitsAfter Oscar batch (draft_of tables.old marks.old heap waiting.old free jobs.old.pushed)
+        (freed_now result (draft_of tables.new marks.new heap waiting.new free jobs.new.pushed)) }
     ensures object { number_at marks.old.objects pointer ≡ Some (object_in result) }
     ensures room { jobs.new.room ≡ jobs.old.room }
 {

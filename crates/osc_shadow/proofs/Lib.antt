@@ -8,6 +8,7 @@ pub mod Refused
 pub mod Sights
 pub mod Granted
 pub mod Plans
+pub mod Fitting
 pub mod Unmapped
 pub mod Linked
 pub mod Overs

@@ -7,3 +7,4 @@ pub mod Sight
 pub mod Outcomes
 pub mod Unmapping
 pub mod Flushing
+pub mod Fits

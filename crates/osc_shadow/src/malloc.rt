@@ -1,12 +1,14 @@
 //! The plan of a malloc.
 
 ghost use Rattle.std.specs.Prelude.{ℕ, ◌≡◌, List, None, length};
+ghost use Rattle.osc_word.specs.declared.settings.HeapKind.TheVariants.{Oscar};
 ghost use Rattle.osc_class.specs.Rooms.{IsRoom, shadow_pages};
 ghost use Rattle.osc_slot.specs.Slots.{need};
 ghost use Rattle.osc_slot.specs.Heap.{next_block};
 ghost use Rattle.osc_space.specs.Agree.{HasSpare};
 ghost use Rattle.osc_space.specs.Malloc.{malloc_in, malloc_plan};
 ghost use Rattle.osc_shadow.specs.Parts.{PartsAgreeWaiting, memory_refusal};
+ghost use Rattle.osc_shadow.specs.Fits.{FitsAfter};
 ghost use Rattle.osc_shadow.specs.Outcomes.{draft_now, planned};
 
 use crate::Space;
@@ -61,13 +63,16 @@ fn give_object(
 }
 
 /// Plans a malloc of `n` bytes: the next object, with fresh shadow pages over the next block of its
-/// room. It is refused for want of shadow pages, and then of frames; a refusal changes nothing.
+/// room. It is refused for want of shadow pages, and then of frames; a refusal changes nothing. The
+/// parts agree again when the call returns, which gives nothing back.
 #[tactic(auto, unfolding(osc_space::specs::Malloc::malloc_plan))]
 pub fn plan_malloc(space: &mut Space, frames: &mut Frames, jobs: &mut Jobs, n: u64) -> Malloced
     requires agree { PartsAgreeWaiting space.old.tables space.old.marks space.old.heap frames.old }
     requires spare { HasSpare jobs.old (length frames.old) }
     ensures plan { (waiting : List ℕ) → planned result (draft_now space.new waiting frames.new jobs.new)
         ≡ malloc_plan n (draft_now space.old waiting frames.old jobs.old) }
+    ensures fits { (batch : ℕ) (waiting : List ℕ) → FitsAfter Oscar batch
+        (draft_now space.old waiting frames.old jobs.old) (planned result (draft_now space.new waiting frames.new jobs.new)) }
     ensures room { jobs.new.room ≡ jobs.old.room }
 {
     let room = room_of(n);

@@ -7,4 +7,5 @@ pub mod Pages
 pub mod Room
 pub mod Rows
 pub mod Shares
+pub mod Fitting
 pub mod Taking

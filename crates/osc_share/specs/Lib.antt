@@ -6,3 +6,4 @@ pub mod Holding
 pub mod Walk
 pub mod InRow
 pub mod Plan
+pub mod Fits

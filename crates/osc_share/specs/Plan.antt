@@ -18,6 +18,11 @@ pub record PartsAgree (tables : KeptTables) (regions : Regions) (free : List Boo
   pub has_tables : space.tables ≡ tables
   pub agrees : SpaceAgrees kind space regions free
 
+-- and for some regions
+pub record PartsAgreeForSome (tables : KeptTables) (free : List Bool) : Type 0 where
+  pub regions : Regions
+  pub agree : PartsAgree tables regions free
+
 abbrev pub sharing : KeptTables → Regions → List Bool → List Job → Sharing
 sharing tables regions free jobs = record { tables = tables; regions = regions; free = free; jobs = jobs }
 

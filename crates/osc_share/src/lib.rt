@@ -18,7 +18,7 @@ use osc_paging::Mapped;
 use osc_tables::Tables;
 use osc_word::Frame;
 use osc_word::address_map::{FIRST_SHADOW_PAGE, FIRST_SHARED_PAGE};
-pub use sharing::{SharePlan, plan_share};
+pub use sharing::{SharePlan, lacks_frames, plan_share};
 use std::alloc::{AllocError, Global};
 use std::marker::Model;
 

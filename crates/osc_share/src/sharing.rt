@@ -5,15 +5,17 @@ ghost use Rattle.std.specs.Prelude.{◌≡◌, ◌+◌, ◌*◌, ◌<◌, ◌≤
 ghost use Rattle.osc_word.specs.AddressMap.{first_shared_page, is_shared};
 ghost use Rattle.osc_word.specs.JobList.{spare};
 ghost use Rattle.osc_frames.specs.Free.{free_count};
-ghost use Rattle.osc_paging.specs.KeptTables.{mapping_at};
+ghost use Rattle.osc_paging.specs.KeptTables.{mapping_at, need};
 ghost use Rattle.osc_paging.specs.TableChanges.{map_pages, zero_job};
 ghost use Rattle.osc_space.specs.Agree.{HasSpare};
 ghost use Rattle.osc_space.specs.Fork.{free_numbers, set_free};
 ghost use Rattle.osc_space.specs.LeafFlags.{read_write_at};
+ghost use Rattle.osc_space.specs.Space.{Space};
 ghost use Rattle.osc_space.specs.Share.{next_shared_page, share_plan, shared_pages};
 ghost use Rattle.osc_tables.specs.Calls.{changed, IsOrdered};
+ghost use Rattle.osc_share.specs.Fits.{FitsAfter};
 ghost use Rattle.osc_share.specs.InRow.{CanMap, CanShare};
-ghost use Rattle.osc_share.specs.Plan.{IsSharePlan, PartsAgree, sharing};
+ghost use Rattle.osc_share.specs.Plan.{IsSharePlan, PartsAgree, PartsAgreeForSome, sharing};
 
 use crate::Regions;
 use osc_frames::Frames;
@@ -150,10 +152,25 @@ fn share_pages(
     share_into(&mut space[..n], tables, regions, frames, jobs, first);
 }
 
+/// Whether so many pages, and the tables that are missing over them after the shared pages that the
+/// process has, are more than the free frames.
+pub fn lacks_frames(tables: &Tables, frames: &Frames, n: u64) -> bool
+    requires agrees { PartsAgreeForSome tables.now frames.now }
+    ensures { result ≡ nat_lt (free_count frames.now) (n + need tables.now (next_shared_page tables.now) n) }
+{
+    let free = u64::from(frames.free_count());
+    if n > free {
+        return true;
+    }
+    let first = next_shared_page(tables);
+    tables.need(first, n) > free - n
+}
+
 /// Plans a share of so many pages, which follow the shared pages that the process has. Each has the
 /// next of the least free frames, zeroed, and can be read and written. It is Empty exactly where no
 /// page is asked for, and else NoFrames exactly where the pages and the tables that are missing over
-/// them are more than the free frames. A refusal changes nothing.
+/// them are more than the free frames. A refusal changes nothing. The parts agree again when the call
+/// returns, which gives nothing back.
 pub fn plan_share(
     tables: &mut Tables,
     regions: &mut Regions,
@@ -165,19 +182,17 @@ pub fn plan_share(
     requires spare { HasSpare jobs.old (length frames.old) }
     ensures plan { IsSharePlan n (sharing tables.old regions.old frames.old jobs.old.pushed) result
         (sharing tables.new regions.new frames.new jobs.new.pushed) }
+    ensures fits { (space : Space) → FitsAfter n space (sharing tables.old regions.old frames.old jobs.old.pushed) result
+        (sharing tables.new regions.new frames.new jobs.new.pushed) }
     ensures room { jobs.new.room ≡ jobs.old.room }
 {
     if n == 0 {
         return SharePlan::Empty;
     }
-    let free = u64::from(frames.free_count());
-    if n > free {
+    if lacks_frames(tables, frames, n) {
         return SharePlan::NoFrames;
     }
     let first = next_shared_page(tables);
-    if tables.need(first, n) > free - n {
-        return SharePlan::NoFrames;
-    }
     share_pages(tables, regions, frames, jobs, first, n as usize);
     SharePlan::Given {
         address: first * 4096,

@@ -1,13 +1,11 @@
 -- The root is in frame 0, and then all pages can be laid.
-use Rattle.std.proofs.Common.{ℕ, ◌≡◌, ◌+◌, ◌∙◌, [], Option, Some, rules, ap, arith, sym, subst, refl}
+use Rattle.std.proofs.Common.{ℕ, ◌∙◌, Option, Some, rules, ap, sym, subst}
 use Rattle.std.specs.Prelude.{IsSome}
-use Rattle.osc_paging.specs.KeptTables.{closed}
 use Rattle.osc_paging.specs.TableChanges.{opened}
 use Rattle.osc_calls.specs.Open.{lay_all, rooted}
-use Rattle.osc_tables.specs.Calls.{IsClosed, changed}
 use Rattle.osc_open.specs.Laying.{pages_of}
-use Rattle.osc_open.specs.Row.{CanLay, alike, with_stack}
-use Rattle.osc_open.proofs.Start.{can_lay_start, closed_is, laid_all, read_and_write, root_frame, root_is, root_left, rooted_is, some_frame, stack_alike}
+use Rattle.osc_open.specs.Row.{CanLay, alike}
+use Rattle.osc_open.proofs.Start.{can_lay_start, laid_all, read_and_write, root_frame, root_is, root_left, rooted_is, some_frame, stack_alike}
 use Rattle.osc_open.proofs.lay_out.Goals as goal
 
 pub unwrap-root-requires : goal.unwrap-root-requires

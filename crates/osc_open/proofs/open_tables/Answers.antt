@@ -1,4 +1,4 @@
-use Rattle.std.proofs.Common.{◌≡◌, ◌+◌, ◌≤◌, ◌∙◌, arith, length}
+use Rattle.std.proofs.Common.{arith}
 use Rattle.osc_open.specs.Laying.{pages_of}
 use Rattle.osc_open.proofs.Counted.{length-pages}
 use Rattle.osc_open.proofs.Start.{few_pages}

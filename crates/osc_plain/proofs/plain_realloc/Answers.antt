@@ -1,15 +1,19 @@
 -- The outcome is the plan's, by the reasons and by whether the block stays.
 use Rattle.std.proofs.Common.{arith, ◌≡◌, ◌+◌, ◌∙◌, true, false, ap, sym, subst}
+use Rattle.osc_word.specs.declared.settings.HeapKind.TheVariants.{Plain}
 use Rattle.osc_class.specs.declared.Room.{Room}
 use Rattle.osc_class.specs.Rooms.{room_of}
 use Rattle.osc_slot.specs.declared.Block.{Block}
 use Rattle.osc_slot.specs.Slots.{is_room}
-use Rattle.osc_space.specs.PlainHeap.{plain_realloc_plan, kept_bytes, copy_block, let_go_plain, place_plain}
-use Rattle.osc_slot.specs.Heap.{next_block}
+use Rattle.osc_space.specs.PlainHeap.{plain_realloc_plan, copy_block, let_go_plain, place_plain}
+use Rattle.osc_slot.specs.Heap.{block_of_user, next_block}
 use Rattle.osc_space.specs.BlockWords.{trim_jobs}
 use Rattle.osc_space.specs.Space.{push}
-use Rattle.osc_plain.specs.Plan.{draft}
-use Rattle.osc_plain.proofs.Lying.{held_bytes, held_few, few_of_block}
+use Rattle.osc_parts.proofs.PlainRealloc.{plain_reallocs_fit}
+use Rattle.osc_shadow.proofs.Fitting.{fits_after}
+use Rattle.osc_plain.specs.Plan.{draft, realloced_now}
+use Rattle.osc_plain.specs.declared.PlainRealloced.TheVariants as realloced
+use Rattle.osc_plain.proofs.Lying.{held_bytes, few_of_block}
 use Rattle.osc_plain.proofs.Plans.{has_address, moved_nothing, stayed, refused, moved}
 use Rattle.osc_plain.proofs.plain_realloc.Goals as goal
 
@@ -66,3 +70,27 @@ returns-clause-plan c shadows =
     (subst (λ k. draft shadows c.move_block-block.new.tables c.move_block-block.new.heap c.move_block-block.new.frames c.move_block-block.new.jobs.pushed
     ≡ let_go_plain c.args.harts c.in-Some.old (copy_block c.in-Some.old (next_block c.args.heap.now c.room_of-room.result) k (place_plain c.args.n (next_block c.args.heap.now c.room_of-room.result) (draft shadows c.args.tables.now c.args.heap.now c.args.frames.now c.args.jobs.now.pushed))))
     c.kept_bytes-bytes.ensures.kept (c.move_block-block.ensures.plan shadows))
+
+pub returns-in_default-clause-fits : goal.returns-in_default-clause-fits
+returns-in_default-clause-fits c batch shadows =
+    let before = draft shadows c.args.tables.now c.args.heap.now c.args.frames.now c.args.jobs.now.pushed in
+    fits_after Plain batch before (realloced_now realloced.NotAnObject c.args.n (block_of_user c.args.heap.now.held c.args.pointer) before) (plain_realloc_plan c.args.harts c.args.pointer c.args.n c.args.size before) (returns-in_default-clause-plan c shadows)
+    (λ entries words regions settled. plain_reallocs_fit batch entries words regions c.args.harts c.args.pointer c.args.n c.args.size before settled c.requires.harts)
+
+pub returns-then-is_room-clause-fits : goal.returns-then-is_room-clause-fits
+returns-then-is_room-clause-fits c batch shadows =
+    let before = draft shadows c.args.tables.now c.args.heap.now c.args.frames.now c.args.jobs.now.pushed in
+    fits_after Plain batch before (realloced_now (realloced.Placed c.args.pointer) c.args.n (block_of_user c.args.heap.now.held c.args.pointer) (draft shadows c.args.tables.now c.args.heap.now c.args.frames.now c.trim_block.new.jobs.pushed)) (plain_realloc_plan c.args.harts c.args.pointer c.args.n c.args.size before) (returns-then-is_room-clause-plan c shadows)
+    (λ entries words regions settled. plain_reallocs_fit batch entries words regions c.args.harts c.args.pointer c.args.n c.args.size before settled c.requires.harts)
+
+pub returns-then-lacks_frames-clause-fits : goal.returns-then-lacks_frames-clause-fits
+returns-then-lacks_frames-clause-fits c batch shadows =
+    let before = draft shadows c.args.tables.now c.args.heap.now c.args.frames.now c.args.jobs.now.pushed in
+    fits_after Plain batch before (realloced_now realloced.NoFrames c.args.n (block_of_user c.args.heap.now.held c.args.pointer) before) (plain_realloc_plan c.args.harts c.args.pointer c.args.n c.args.size before) (returns-then-lacks_frames-clause-plan c shadows)
+    (λ entries words regions settled. plain_reallocs_fit batch entries words regions c.args.harts c.args.pointer c.args.n c.args.size before settled c.requires.harts)
+
+pub returns-clause-fits : goal.returns-clause-fits
+returns-clause-fits c batch shadows =
+    let before = draft shadows c.args.tables.now c.args.heap.now c.args.frames.now c.args.jobs.now.pushed in
+    fits_after Plain batch before (realloced_now (realloced.Placed (c.move_block-block.result.start + 16)) c.args.n (block_of_user c.args.heap.now.held c.args.pointer) (draft shadows c.move_block-block.new.tables c.move_block-block.new.heap c.move_block-block.new.frames c.move_block-block.new.jobs.pushed)) (plain_realloc_plan c.args.harts c.args.pointer c.args.n c.args.size before) (returns-clause-plan c shadows)
+    (λ entries words regions settled. plain_reallocs_fit batch entries words regions c.args.harts c.args.pointer c.args.n c.args.size before settled c.requires.harts)

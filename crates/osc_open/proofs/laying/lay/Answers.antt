@@ -1,5 +1,5 @@
 -- The page's own frame is the one after its tables.
-use Rattle.std.proofs.Common.{◌≡◌, ◌-◌, ◌+◌, ◌∙◌, ap, arith, sym, subst}
+use Rattle.std.proofs.Common.{◌∙◌, ap, arith, sym, subst}
 use Rattle.osc_sv39.specs.declared.entries.Mapping.{Mapping}
 use Rattle.osc_frames.specs.Free.{without_frame}
 use Rattle.osc_paging.specs.Agree.{ReadsAsLeaf}

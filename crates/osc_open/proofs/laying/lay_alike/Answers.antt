@@ -1,5 +1,5 @@
 -- One page more is laid.
-use Rattle.std.proofs.Common.{◌≡◌, ◌+◌, ◌-◌, ◌∙◌, ap, sym, subst}
+use Rattle.std.proofs.Common.{◌+◌, ◌-◌, ◌∙◌, ap, sym, subst}
 use Rattle.osc_calls.specs.Open.{lay_all}
 use Rattle.osc_tables.specs.Calls.{changed}
 use Rattle.osc_open.specs.Row.{CanLay, alike}

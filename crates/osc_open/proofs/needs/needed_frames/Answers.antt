@@ -1,4 +1,4 @@
-use Rattle.std.proofs.Common.{◌≡◌, ◌+◌, arith}
+use Rattle.std.proofs.Common.{arith}
 use Rattle.osc_open.specs.Laying.{pages_of}
 use Rattle.osc_open.proofs.Counted.{frames-are, length-pages}
 use Rattle.osc_open.proofs.needs.needed_frames.Goals as goal

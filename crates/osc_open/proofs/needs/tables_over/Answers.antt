@@ -1,5 +1,5 @@
 -- One page more is counted.
-use Rattle.std.proofs.Common.{◌≡◌, ◌+◌, ◌<◌, ◌∙◌, ◌∷◌, suc, length, take, drop, get_or, arith, sym, subst, ap}
+use Rattle.std.proofs.Common.{◌≡◌, ◌+◌, ◌<◌, ◌∙◌, ◌∷◌, suc, length, take, drop, get_or, arith, subst, ap}
 use Rattle.std.proofs.lemmas.List.{take_more}
 use Rattle.std.proofs.Math.Seq as seq
 use Rattle.osc_open.proofs.Counted.{Counting, counting_new, counting_same}

@@ -1,9 +1,8 @@
 -- The block is placed, and where it takes new pages these can be mapped.
-use Rattle.std.proofs.Common.{arith, ◌≡◌, ◌≤◌, ◌+◌, ◌/◌, ◌∙◌, length, refl, sym, ap, subst}
+use Rattle.std.proofs.Common.{arith, ◌≤◌, ◌+◌, ◌/◌, ◌∙◌, length, sym, ap, subst}
 use Rattle.osc_class.specs.declared.Room.{Room}
 use Rattle.osc_class.specs.Rooms.{block_bytes, shadow_pages}
 use Rattle.osc_slot.specs.declared.Block.{Block}
-use Rattle.osc_slot.specs.Heap.{FramesAgree}
 use Rattle.osc_slot.proofs.Backing.{free_count-le}
 use Rattle.osc_tables.specs.Calls.{changed}
 use Rattle.osc_space.specs.BlockWords.{block_mappings}

@@ -1,6 +1,5 @@
 -- The pages that hold no other block are unmapped, and the boxes cleared where there are any.
-use Rattle.std.proofs.Common.{arith, ◌≡◌, ◌≤◌, ◌+◌, ◌<◌, ◌∙◌}
-use Rattle.osc_class.specs.Rooms.{shadow_pages}
+use Rattle.std.proofs.Common.{arith}
 use Rattle.osc_plain.proofs.Lying.{held_few}
 use Rattle.osc_plain.proofs.Unmaps.{few_alone, can_unmap, lets_go, stays}
 use Rattle.osc_plain.proofs.blocks.let_go.Goals as goal

@@ -1,8 +1,5 @@
 -- The old block is still held, its pages are still mapped, and there is room for the jobs.
-use Rattle.std.proofs.Common.{arith, ◌≡◌, ◌+◌, ◌∙◌, sym, ap}
-use Rattle.osc_slot.specs.declared.Block.{Block}
-use Rattle.osc_space.specs.PlainHeap.{let_go_plain, copy_block}
-use Rattle.osc_space.specs.Space.{Draft}
+use Rattle.std.proofs.Common.{arith}
 use Rattle.osc_plain.proofs.Lying.{held_mapped, held_bytes, held_room, copies_few}
 use Rattle.osc_plain.proofs.Plans.{moves}
 use Rattle.osc_plain.proofs.blocks.move_block.Goals as goal

@@ -1,8 +1,7 @@
 -- The parts agree, so the object's pages are mapped, and once they are not the dead leaf tables have
 -- no entry.
-use Rattle.std.proofs.Common.{ℕ, ◌+◌, ◌<◌, ◌≡◌, ◌∙◌, ◌∷◌, ◌++◌, [], arith, ap, refl, subst, sym, length, List}
+use Rattle.std.proofs.Common.{ℕ, ◌+◌, ◌<◌, ◌≡◌, ◌∙◌, ◌∷◌, ◌++◌, [], arith, ap, subst, sym, length, List}
 use Rattle.std.specs.Prelude.{All}
-use Rattle.osc_class.specs.Rooms.{shadow_pages}
 use Rattle.osc_mark.specs.Grants.{Grants, lives}
 use Rattle.osc_space.specs.declared.ObjectFact.{ObjectFact}
 use Rattle.osc_space.specs.Objects.{fact, grant, granted_at, kill, next_page}

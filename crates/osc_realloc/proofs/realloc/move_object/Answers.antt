@@ -1,5 +1,5 @@
 -- The parts agree and there is enough, so the block can be taken, its words put and its pages mapped.
-use Rattle.std.proofs.Common.{ℕ, ◌+◌, ◌*◌, ◌-◌, ◌/◌, ◌%◌, ◌^◌, ◌≡◌, ◌<◌, ◌≤◌, ◌++◌, ◌∷◌, [], ◌∙◌, Bool, min, List, arith, refl, ap, sym, subst, length}
+use Rattle.std.proofs.Common.{◌+◌, ◌*◌, ◌%◌, ◌^◌, ◌≡◌, ◌<◌, ◌≤◌, ◌++◌, ◌∷◌, [], ◌∙◌, min, arith, refl, ap, sym, subst}
 use Rattle.osc_class.specs.declared.Room.{Room}
 use Rattle.osc_class.specs.Rooms.{IsRoom, block_bytes, room_of, shadow_pages}
 use Rattle.osc_slot.specs.Heap.{free_count}

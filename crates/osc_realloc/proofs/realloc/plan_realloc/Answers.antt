@@ -1,10 +1,15 @@
 -- The pointer is that of a live object.
-use Rattle.std.proofs.Common.{◌≡◌, ◌∙◌, Some, None}
+use Rattle.std.proofs.Common.{◌∙◌, Some, None, refl}
 use Rattle.osc_word.specs.declared.calls.Answer.TheVariants as answer
+use Rattle.osc_word.specs.declared.settings.HeapKind.TheVariants.{Oscar}
+use Rattle.osc_space.specs.Realloc.{realloc_plan}
+use Rattle.osc_parts.proofs.ReallocKinds.{reallocs_fit}
 use Rattle.osc_shadow.specs.Parts.{draft_of}
 use Rattle.osc_shadow.specs.Sight.{damage_answer, seen_of}
 use Rattle.osc_shadow.proofs.Looked.{is_seen, seen_live}
-use Rattle.osc_realloc.specs.Outcomes.{terms, found_of}
+use Rattle.osc_shadow.proofs.Fitting.{fits_after}
+use Rattle.osc_realloc.specs.declared.answer.Realloced.TheVariants as realloced_to
+use Rattle.osc_realloc.specs.Outcomes.{terms, found_of, realloced}
 use Rattle.osc_realloc.proofs.Planned.{wants_is, damaged_is, wanted_is}
 use Rattle.osc_realloc.proofs.realloc.plan_realloc.Goals as goal
 
@@ -48,3 +53,31 @@ returns-in-None-clause-plan c batch =
 
 pub returns-in-None-clause-object : goal.returns-in-None-clause-object
 returns-in-None-clause-object c = c.move_object.ensures.object c.args.pointer
+
+pub returns-in-Some-clause-fits : goal.returns-in-Some-clause-fits
+returns-in-Some-clause-fits c batch =
+    let before = draft_of c.args.tables.now c.args.marks.now c.args.heap.now c.args.waiting.now c.args.frames.now c.args.jobs.now.pushed in
+    let t = terms c.args.harts c.args.call batch in
+    fits_after Oscar batch before (realloced c.args.n before (realloced_to.HeaderDamaged c.unwrap-seen.result.number c.in-Some.damage.kept c.in-Some.damage.found) before) (realloc_plan t c.args.pointer c.args.n (found_of c.args.found) before) (returns-in-Some-clause-plan c batch)
+    (λ entries words regions settled. reallocs_fit batch entries words regions t c.args.pointer c.args.n (found_of c.args.found) before settled (record { is = refl; harts = c.requires.harts }))
+
+pub returns-in-Some-Shadow-clause-fits : goal.returns-in-Some-Shadow-clause-fits
+returns-in-Some-Shadow-clause-fits c batch =
+    let before = draft_of c.args.tables.now c.args.marks.now c.args.heap.now c.args.waiting.now c.args.frames.now c.args.jobs.now.pushed in
+    let t = terms c.args.harts c.args.call batch in
+    fits_after Oscar batch before (realloced c.args.n before realloced_to.NoShadow before) (realloc_plan t c.args.pointer c.args.n (found_of c.args.found) before) (returns-in-Some-Shadow-clause-plan c batch)
+    (λ entries words regions settled. reallocs_fit batch entries words regions t c.args.pointer c.args.n (found_of c.args.found) before settled (record { is = refl; harts = c.requires.harts }))
+
+pub returns-in-Some-Frames-clause-fits : goal.returns-in-Some-Frames-clause-fits
+returns-in-Some-Frames-clause-fits c batch =
+    let before = draft_of c.args.tables.now c.args.marks.now c.args.heap.now c.args.waiting.now c.args.frames.now c.args.jobs.now.pushed in
+    let t = terms c.args.harts c.args.call batch in
+    fits_after Oscar batch before (realloced c.args.n before realloced_to.NoFrames before) (realloc_plan t c.args.pointer c.args.n (found_of c.args.found) before) (returns-in-Some-Frames-clause-plan c batch)
+    (λ entries words regions settled. reallocs_fit batch entries words regions t c.args.pointer c.args.n (found_of c.args.found) before settled (record { is = refl; harts = c.requires.harts }))
+
+pub returns-in-None-clause-fits : goal.returns-in-None-clause-fits
+returns-in-None-clause-fits c batch =
+    let before = draft_of c.args.tables.now c.args.marks.now c.args.heap.now c.args.waiting.now c.args.frames.now c.args.jobs.now.pushed in
+    let t = terms c.args.harts c.args.call batch in
+    fits_after Oscar batch before (realloced c.args.n before c.move_object.result (draft_of c.move_object.new.tables c.move_object.new.marks c.move_object.new.heap c.args.waiting.now c.move_object.new.frames c.move_object.new.jobs.pushed)) (realloc_plan t c.args.pointer c.args.n (found_of c.args.found) before) (returns-in-None-clause-plan c batch)
+    (λ entries words regions settled. reallocs_fit batch entries words regions t c.args.pointer c.args.n (found_of c.args.found) before settled (record { is = refl; harts = c.requires.harts }))
