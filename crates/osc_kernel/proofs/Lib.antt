@@ -1,0 +1,14 @@
+pub mod Stepping
+pub mod Rooms
+pub mod Ends
+pub mod Heaps
+pub mod Givings
+pub mod Returning
+pub mod Writes
+pub mod Showing
+pub mod Others
+pub mod Forks
+pub mod Laid
+pub mod Ascending
+pub mod Committing
+pub mod Taking

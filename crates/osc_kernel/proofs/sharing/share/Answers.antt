@@ -1,0 +1,11 @@
+-- A share.
+use Rattle.std.proofs.Common.{ap}
+use Rattle.osc_kernel.proofs.Heaps.{caller_is}
+use Rattle.osc_kernel.proofs.Rooms.{rooms_process}
+use Rattle.osc_kernel.proofs.sharing.share.Goals as goal
+
+pub returns-clause-rooms : goal.returns-clause-rooms
+returns-clause-rooms c =
+    rooms_process c.args.state.now _ c.index_mut-process.result.now _ _ _ _ _ _
+    (caller_is c.args.state.now c.args.calling.now _ _ _ c.requires.can c.pid.ensures c.index_mut-process.ensures.value)
+    (ap (λ q. q.status) c.share-address.ensures.rest) c.share-address.ensures.sizes c.share-address.ensures.room c.requires.can.rooms

@@ -1,0 +1,14 @@
+pub use Rattle.osc_calls.specs.Kernel
+pub use Rattle.osc_calls.specs.Begin
+pub use Rattle.osc_calls.specs.Plan
+pub use Rattle.osc_calls.specs.JobDone
+pub use Rattle.osc_calls.specs.Finish
+pub use Rattle.osc_calls.specs.Choices
+pub use Rattle.osc_calls.specs.Boxes
+pub use Rattle.osc_calls.specs.Open
+pub mod Seen
+pub mod Inside
+pub mod Sound
+pub mod Opens
+pub mod Plans
+pub mod Returns

@@ -1,0 +1,9 @@
+pub use Rattle.osc_calls.specs.Kernel
+pub use Rattle.osc_calls.specs.HeapPlans
+pub use Rattle.osc_space.specs.Space
+pub use Rattle.osc_word.specs.JobList
+pub mod Parts
+pub mod Fits
+pub mod Given
+pub mod Returns
+pub mod Stands

@@ -1,0 +1,5 @@
+pub mod Found
+pub mod Writes
+pub mod Whole
+pub mod Opening
+pub mod Taken

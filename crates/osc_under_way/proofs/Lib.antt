@@ -1,0 +1,2 @@
+pub mod EightRecords
+pub mod OnPages
