@@ -1,0 +1,6 @@
+pub mod Shared
+pub mod Acting
+pub mod Sound
+pub mod Ends
+pub mod Words
+pub mod Boot

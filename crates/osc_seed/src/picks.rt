@@ -1,0 +1,27 @@
+//! The harts that a seed picks.
+
+ghost use Rattle.std.specs.Prelude.{◌≡◌, ◌<◌};
+ghost use Rattle.osc_machine.specs.Picks.{next_seed, picked};
+
+const MULTIPLIER: u64 = 6364136223846793005;
+
+const INCREMENT: u64 = 1442695040888963407;
+
+/// The lower bits of a seed repeat soon; those from this one on pick the hart.
+const FIRST_BIT: u32 = 33;
+
+/// The seed after this one.
+pub fn next_seed(seed: u64) -> u64
+    ensures { result ≡ next_seed seed }
+{
+    seed.wrapping_mul(MULTIPLIER).wrapping_add(INCREMENT)
+}
+
+/// The hart among so many that a seed picks.
+pub fn picked(harts: usize, seed: u64) -> usize
+    requires { 0 < harts }
+    ensures is { result ≡ picked harts seed }
+    ensures below { result < harts }
+{
+    ((seed >> FIRST_BIT) % harts as u64) as usize
+}
