@@ -1,0 +1,11 @@
+pub mod Tops
+pub mod Taking
+pub mod PlanRows
+pub mod Passing
+pub mod PlanPasses
+pub mod KernelPasses
+pub mod Rows
+pub mod GuestRows
+pub mod CallRows
+pub mod Steps
+pub mod Runs

@@ -1,0 +1,11 @@
+pub mod Holding
+pub mod Standing
+pub mod KernelSteps
+pub mod Telling
+pub mod Fresh
+pub mod Naming
+pub mod Unwritten
+pub mod Undone
+pub mod Holders
+pub mod Accesses
+pub mod DeadUnmapped

@@ -1,0 +1,4 @@
+pub mod WrittenRows
+pub mod WrittenRuns
+pub mod WrittenShows
+pub mod WrittenGraves
