@@ -1,0 +1,9 @@
+//! The memory of the object run: pages of image and stack, objects, and the processes that have them. The
+//! definitions stand in `osc_world`.
+#![tactic(auto)]
+
+mod memory;
+mod process;
+
+pub use memory::{HeapDeed, Memory, Numbered, Page, lets};
+pub use process::Process;
