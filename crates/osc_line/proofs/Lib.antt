@@ -1,0 +1,9 @@
+pub mod Splits
+pub mod OneName
+pub mod Fits
+pub mod FirstBytes
+pub mod Unnamed
+pub mod EachByte
+pub mod Registers
+pub mod Branches
+pub mod NothingSaid

@@ -1,0 +1,405 @@
+//! Lines as this project's notation has them, and words of GNU as with the text of its source lines.
+use super::*;
+use osc_rv::{BranchKind, Instr, decode};
+use osc_text::{TextBuf, print_instr};
+use std::test::Fail;
+
+static ROWS: [(u32, &str); 221] = [
+    (0x00000fb7, "lui x31, 0"),
+    (0x00000097, "auipc x1, 0"),
+    (0x00001fb7, "lui x31, 1"),
+    (0x00001097, "auipc x1, 1"),
+    (0x80000fb7, "lui x31, 524288"),
+    (0x80000097, "auipc x1, 524288"),
+    (0xffffffb7, "lui x31, 1048575"),
+    (0xfffff097, "auipc x1, 1048575"),
+    (0x000000ef, "jal x1, 0"),
+    (0x002000ef, "jal x1, 2"),
+    (0x001000ef, "jal x1, 2048"),
+    (0x000010ef, "jal x1, 4096"),
+    (0x7ffff0ef, "jal x1, 1048574"),
+    (0xfffff0ef, "jal x1, -2"),
+    (0x800000ef, "jal x1, -1048576"),
+    (0x4aa55fef, "jal x31, 349354"),
+    (0x000f80e7, "jalr x1, 0(x31)"),
+    (0x00008f93, "addi x31, x1, 0"),
+    (0x0008009b, "addiw x1, x16, 0"),
+    (0x00013f83, "ld x31, 0(x2)"),
+    (0x01f13023, "sd x31, 0(x2)"),
+    (0x001f80e7, "jalr x1, 1(x31)"),
+    (0x00108f93, "addi x31, x1, 1"),
+    (0x0018009b, "addiw x1, x16, 1"),
+    (0x00113f83, "ld x31, 1(x2)"),
+    (0x01f130a3, "sd x31, 1(x2)"),
+    (0x7fff80e7, "jalr x1, 2047(x31)"),
+    (0x7ff08f93, "addi x31, x1, 2047"),
+    (0x7ff8009b, "addiw x1, x16, 2047"),
+    (0x7ff13f83, "ld x31, 2047(x2)"),
+    (0x7ff13fa3, "sd x31, 2047(x2)"),
+    (0xffff80e7, "jalr x1, -1(x31)"),
+    (0xfff08f93, "addi x31, x1, -1"),
+    (0xfff8009b, "addiw x1, x16, -1"),
+    (0xfff13f83, "ld x31, -1(x2)"),
+    (0xfff13fa3, "sd x31, -1(x2)"),
+    (0x800f80e7, "jalr x1, -2048(x31)"),
+    (0x80008f93, "addi x31, x1, -2048"),
+    (0x8008009b, "addiw x1, x16, -2048"),
+    (0x80013f83, "ld x31, -2048(x2)"),
+    (0x81f13023, "sd x31, -2048(x2)"),
+    (0x555ea113, "slti x2, x29, 1365"),
+    (0x80012e93, "slti x29, x2, -2048"),
+    (0x555eb113, "sltiu x2, x29, 1365"),
+    (0x80013e93, "sltiu x29, x2, -2048"),
+    (0x555ec113, "xori x2, x29, 1365"),
+    (0x80014e93, "xori x29, x2, -2048"),
+    (0x555ee113, "ori x2, x29, 1365"),
+    (0x80016e93, "ori x29, x2, -2048"),
+    (0x555ef113, "andi x2, x29, 1365"),
+    (0x80017e93, "andi x29, x2, -2048"),
+    (0x7ffe0183, "lb x3, 2047(x28)"),
+    (0x80018e03, "lb x28, -2048(x3)"),
+    (0x7ffe1183, "lh x3, 2047(x28)"),
+    (0x80019e03, "lh x28, -2048(x3)"),
+    (0x7ffe2183, "lw x3, 2047(x28)"),
+    (0x8001ae03, "lw x28, -2048(x3)"),
+    (0x7ffe4183, "lbu x3, 2047(x28)"),
+    (0x8001ce03, "lbu x28, -2048(x3)"),
+    (0x7ffe5183, "lhu x3, 2047(x28)"),
+    (0x8001de03, "lhu x28, -2048(x3)"),
+    (0x7ffe6183, "lwu x3, 2047(x28)"),
+    (0x8001ee03, "lwu x28, -2048(x3)"),
+    (0x7fc18023, "sb x28, 2016(x3)"),
+    (0x803e0fa3, "sb x3, -2017(x28)"),
+    (0x7fc19023, "sh x28, 2016(x3)"),
+    (0x803e1fa3, "sh x3, -2017(x28)"),
+    (0x7fc1a023, "sw x28, 2016(x3)"),
+    (0x803e2fa3, "sw x3, -2017(x28)"),
+    (0x001f8163, "beq x31, x1, 2"),
+    (0x001f8f63, "beq x31, x1, 30"),
+    (0x021f8063, "beq x31, x1, 32"),
+    (0x7e1f8f63, "beq x31, x1, 2046"),
+    (0x001f80e3, "beq x31, x1, 2048"),
+    (0x7e1f8fe3, "beq x31, x1, 4094"),
+    (0xfe1f8fe3, "beq x31, x1, -2"),
+    (0x801f8063, "beq x31, x1, -4096"),
+    (0x75a29ae3, "bne x5, x26, 3924"),
+    (0x8a5d15e3, "bne x26, x5, -1878"),
+    (0x75a2cae3, "blt x5, x26, 3924"),
+    (0x8a5d45e3, "blt x26, x5, -1878"),
+    (0x75a2dae3, "bge x5, x26, 3924"),
+    (0x8a5d55e3, "bge x26, x5, -1878"),
+    (0x75a2eae3, "bltu x5, x26, 3924"),
+    (0x8a5d65e3, "bltu x26, x5, -1878"),
+    (0x75a2fae3, "bgeu x5, x26, 3924"),
+    (0x8a5d75e3, "bgeu x26, x5, -1878"),
+    (0x000d9213, "slli x4, x27, 0"),
+    (0x001d9213, "slli x4, x27, 1"),
+    (0x01fd9213, "slli x4, x27, 31"),
+    (0x020d9213, "slli x4, x27, 32"),
+    (0x03fd9213, "slli x4, x27, 63"),
+    (0x000dd213, "srli x4, x27, 0"),
+    (0x001dd213, "srli x4, x27, 1"),
+    (0x01fdd213, "srli x4, x27, 31"),
+    (0x020dd213, "srli x4, x27, 32"),
+    (0x03fdd213, "srli x4, x27, 63"),
+    (0x400dd213, "srai x4, x27, 0"),
+    (0x401dd213, "srai x4, x27, 1"),
+    (0x41fdd213, "srai x4, x27, 31"),
+    (0x420dd213, "srai x4, x27, 32"),
+    (0x43fdd213, "srai x4, x27, 63"),
+    (0x00021d9b, "slliw x27, x4, 0"),
+    (0x00121d9b, "slliw x27, x4, 1"),
+    (0x01f21d9b, "slliw x27, x4, 31"),
+    (0x00025d9b, "srliw x27, x4, 0"),
+    (0x00125d9b, "srliw x27, x4, 1"),
+    (0x01f25d9b, "srliw x27, x4, 31"),
+    (0x40025d9b, "sraiw x27, x4, 0"),
+    (0x40125d9b, "sraiw x27, x4, 1"),
+    (0x41f25d9b, "sraiw x27, x4, 31"),
+    (0x004100b3, "add x1, x2, x4"),
+    (0x01df0fb3, "add x31, x30, x29"),
+    (0x404100b3, "sub x1, x2, x4"),
+    (0x41df0fb3, "sub x31, x30, x29"),
+    (0x004110b3, "sll x1, x2, x4"),
+    (0x01df1fb3, "sll x31, x30, x29"),
+    (0x004120b3, "slt x1, x2, x4"),
+    (0x01df2fb3, "slt x31, x30, x29"),
+    (0x004130b3, "sltu x1, x2, x4"),
+    (0x01df3fb3, "sltu x31, x30, x29"),
+    (0x004140b3, "xor x1, x2, x4"),
+    (0x01df4fb3, "xor x31, x30, x29"),
+    (0x004150b3, "srl x1, x2, x4"),
+    (0x01df5fb3, "srl x31, x30, x29"),
+    (0x404150b3, "sra x1, x2, x4"),
+    (0x41df5fb3, "sra x31, x30, x29"),
+    (0x004160b3, "or x1, x2, x4"),
+    (0x01df6fb3, "or x31, x30, x29"),
+    (0x004170b3, "and x1, x2, x4"),
+    (0x01df7fb3, "and x31, x30, x29"),
+    (0x004100bb, "addw x1, x2, x4"),
+    (0x01df0fbb, "addw x31, x30, x29"),
+    (0x404100bb, "subw x1, x2, x4"),
+    (0x41df0fbb, "subw x31, x30, x29"),
+    (0x004110bb, "sllw x1, x2, x4"),
+    (0x01df1fbb, "sllw x31, x30, x29"),
+    (0x004150bb, "srlw x1, x2, x4"),
+    (0x01df5fbb, "srlw x31, x30, x29"),
+    (0x404150bb, "sraw x1, x2, x4"),
+    (0x41df5fbb, "sraw x31, x30, x29"),
+    (0x02c58533, "mul x10, x11, x12"),
+    (0x03e08fb3, "mul x31, x1, x30"),
+    (0x02c59533, "mulh x10, x11, x12"),
+    (0x03e09fb3, "mulh x31, x1, x30"),
+    (0x02c5a533, "mulhsu x10, x11, x12"),
+    (0x03e0afb3, "mulhsu x31, x1, x30"),
+    (0x02c5b533, "mulhu x10, x11, x12"),
+    (0x03e0bfb3, "mulhu x31, x1, x30"),
+    (0x02c5c533, "div x10, x11, x12"),
+    (0x03e0cfb3, "div x31, x1, x30"),
+    (0x02c5d533, "divu x10, x11, x12"),
+    (0x03e0dfb3, "divu x31, x1, x30"),
+    (0x02c5e533, "rem x10, x11, x12"),
+    (0x03e0efb3, "rem x31, x1, x30"),
+    (0x02c5f533, "remu x10, x11, x12"),
+    (0x03e0ffb3, "remu x31, x1, x30"),
+    (0x02c5853b, "mulw x10, x11, x12"),
+    (0x03e08fbb, "mulw x31, x1, x30"),
+    (0x02c5c53b, "divw x10, x11, x12"),
+    (0x03e0cfbb, "divw x31, x1, x30"),
+    (0x02c5d53b, "divuw x10, x11, x12"),
+    (0x03e0dfbb, "divuw x31, x1, x30"),
+    (0x02c5e53b, "remw x10, x11, x12"),
+    (0x03e0efbb, "remw x31, x1, x30"),
+    (0x02c5f53b, "remuw x10, x11, x12"),
+    (0x03e0ffbb, "remuw x31, x1, x30"),
+    (0x0ff0000f, "fence 261120"),
+    (0x8330000f, "fence 2149376"),
+    (0x0120000f, "fence 18432"),
+    (0xffff8f8f, "fence 4194303"),
+    (0x0000100f, "fence.i 0"),
+    (0xffff9f8f, "fence.i 4194303"),
+    (0x00000073, "ecall"),
+    (0x00100073, "ebreak"),
+    (0x100f20af, "lr.w x1, (x30)"),
+    (0x18f0af2f, "sc.w x30, x15, (x1)"),
+    (0x090fa02f, "amoswap.w x0, x16, (x31)"),
+    (0x00802faf, "amoadd.w x31, x8, (x0)"),
+    (0x100f30af, "lr.d x1, (x30)"),
+    (0x18f0bf2f, "sc.d x30, x15, (x1)"),
+    (0x090fb02f, "amoswap.d x0, x16, (x31)"),
+    (0x00803faf, "amoadd.d x31, x8, (x0)"),
+    (0x120f20af, "lr.w.rl x1, (x30)"),
+    (0x1af0af2f, "sc.w.rl x30, x15, (x1)"),
+    (0x0b0fa02f, "amoswap.w.rl x0, x16, (x31)"),
+    (0x02802faf, "amoadd.w.rl x31, x8, (x0)"),
+    (0x120f30af, "lr.d.rl x1, (x30)"),
+    (0x1af0bf2f, "sc.d.rl x30, x15, (x1)"),
+    (0x0b0fb02f, "amoswap.d.rl x0, x16, (x31)"),
+    (0x02803faf, "amoadd.d.rl x31, x8, (x0)"),
+    (0x140f20af, "lr.w.aq x1, (x30)"),
+    (0x1cf0af2f, "sc.w.aq x30, x15, (x1)"),
+    (0x0d0fa02f, "amoswap.w.aq x0, x16, (x31)"),
+    (0x04802faf, "amoadd.w.aq x31, x8, (x0)"),
+    (0x140f30af, "lr.d.aq x1, (x30)"),
+    (0x1cf0bf2f, "sc.d.aq x30, x15, (x1)"),
+    (0x0d0fb02f, "amoswap.d.aq x0, x16, (x31)"),
+    (0x04803faf, "amoadd.d.aq x31, x8, (x0)"),
+    (0x160f20af, "lr.w.aqrl x1, (x30)"),
+    (0x1ef0af2f, "sc.w.aqrl x30, x15, (x1)"),
+    (0x0f0fa02f, "amoswap.w.aqrl x0, x16, (x31)"),
+    (0x06802faf, "amoadd.w.aqrl x31, x8, (x0)"),
+    (0x160f30af, "lr.d.aqrl x1, (x30)"),
+    (0x1ef0bf2f, "sc.d.aqrl x30, x15, (x1)"),
+    (0x0f0fb02f, "amoswap.d.aqrl x0, x16, (x31)"),
+    (0x06803faf, "amoadd.d.aqrl x31, x8, (x0)"),
+    (0x24cca32f, "amoxor.w.aq x6, x12, (x25)"),
+    (0x23333caf, "amoxor.d.rl x25, x19, (x6)"),
+    (0x44cca32f, "amoor.w.aq x6, x12, (x25)"),
+    (0x43333caf, "amoor.d.rl x25, x19, (x6)"),
+    (0x64cca32f, "amoand.w.aq x6, x12, (x25)"),
+    (0x63333caf, "amoand.d.rl x25, x19, (x6)"),
+    (0x84cca32f, "amomin.w.aq x6, x12, (x25)"),
+    (0x83333caf, "amomin.d.rl x25, x19, (x6)"),
+    (0xa4cca32f, "amomax.w.aq x6, x12, (x25)"),
+    (0xa3333caf, "amomax.d.rl x25, x19, (x6)"),
+    (0xc4cca32f, "amominu.w.aq x6, x12, (x25)"),
+    (0xc3333caf, "amominu.d.rl x25, x19, (x6)"),
+    (0xe4cca32f, "amomaxu.w.aq x6, x12, (x25)"),
+    (0xe3333caf, "amomaxu.d.rl x25, x19, (x6)"),
+];
+
+/// No instruction is spelled so.
+static OTHERS: [&str; 28] = [
+    "",
+    "addi x10, x0, 007",
+    "addi x10, x0, -0",
+    "addi x10, x0, +7",
+    "addi x10, x0, 2048",
+    "addi x10, x0, -2049",
+    "addi x10, x0, 99999999999999999999",
+    "addi x10,x0, 7",
+    "addi  x10, x0, 7",
+    "addi x10, x0, 7 ",
+    "addi x10, x0",
+    "addi x10, x0, 7, 7",
+    "addi x32, x0, 7",
+    "addi x01, x0, 7",
+    "ADDI x10, x0, 7",
+    "lui x1, 1048576",
+    "lui x1, -1",
+    "beq x1, x2, 3",
+    "jal x1, 1048576",
+    "slli x1, x2, 64",
+    "slliw x1, x2, 32",
+    "fence 4194304",
+    "lr.w.rlaq x1, (x2)",
+    "lr.w.aq x1, x2",
+    "ld x1, (x2)",
+    "amoadd x1, x2, (x3)",
+    "ecall ",
+    "ecall x1",
+];
+
+#[test]
+fn spellings_are_read_printed_and_read_again(rt: HostRuntime) -> Result<(), Fail> {
+    let mut printed = TextBuf::new();
+    for (word, text) in ROWS.iter() {
+        let instr = decode(*word).ok_or("no instruction")?;
+        let found = read_instr(text.as_bytes()).ok_or("not read")?;
+        assert_eq!(rt; found, instr, "{text}");
+        print_instr(&found, &mut printed);
+        assert_eq!(rt; printed.as_bytes(), text.as_bytes(), "{word:x}");
+        let again = read_instr(printed.as_bytes()).ok_or("not read again")?;
+        assert_eq!(rt; again, instr, "{text}");
+    }
+    Ok(())
+}
+
+#[test]
+fn other_texts_are_no_spelling(rt: HostRuntime) -> Result<(), Fail> {
+    for text in OTHERS.iter() {
+        assert!(rt; read_instr(text.as_bytes()).is_none(), "{text}");
+    }
+    Ok(())
+}
+
+fn name(start: u32, count: u32) -> Name {
+    Name { start, count }
+}
+
+#[test]
+fn lines_are_read(rt: HostRuntime) -> Result<(), Fail> {
+    let addi = decode(0x00700513).ok_or("no instruction")?;
+    let kind = BranchKind::Beq;
+    let rows: [(&str, Line); 18] = [
+        ("", Line::Blank),
+        ("#", Line::Blank),
+        ("# addi x10, x0, 007", Line::Blank),
+        ("addi x10, x0, 7", Line::Plain(addi)),
+        ("ecall", Line::Plain(Instr::Ecall)),
+        ("loop:", Line::Bind(name(0, 4))),
+        ("x5:", Line::Bind(name(0, 2))),
+        ("a_0123456789_0123456789_01234567:", Line::Bind(name(0, 32))),
+        (
+            "beq x10, x0, loop",
+            Line::Branch {
+                kind,
+                rs1: 10,
+                rs2: 0,
+                to: name(13, 4),
+            },
+        ),
+        (
+            "jal x0, far_away",
+            Line::Jump {
+                rd: 0,
+                to: name(8, 8),
+            },
+        ),
+        (
+            "jal x1, x5",
+            Line::Jump {
+                rd: 1,
+                to: name(8, 2),
+            },
+        ),
+        ("li x10, 0", Line::Li { rd: 10, value: 0 }),
+        (
+            "li x31, 2147481599",
+            Line::Li {
+                rd: 31,
+                value: 2147481599,
+            },
+        ),
+        (
+            "la x10, loop",
+            Line::La {
+                rd: 10,
+                to: name(8, 4),
+            },
+        ),
+        ("lab x10, 0", Line::Lab { rd: 10, offset: 0 }),
+        (
+            "lab x10, 16777215",
+            Line::Lab {
+                rd: 10,
+                offset: 16777215,
+            },
+        ),
+        (
+            "bytes 00",
+            Line::Bytes {
+                start: 6,
+                digits: 2,
+            },
+        ),
+        (
+            "bytes 0aff",
+            Line::Bytes {
+                start: 6,
+                digits: 4,
+            },
+        ),
+    ];
+    for (text, line) in rows.iter() {
+        let found = read_line(text.as_bytes()).ok_or("no line")?;
+        assert_eq!(rt; found, *line, "{text}");
+    }
+    Ok(())
+}
+
+#[test]
+fn other_texts_are_no_lines(rt: HostRuntime) -> Result<(), Fail> {
+    let texts = [
+        "addi x10, x0, 2048",
+        "addi x10, x0, loop",
+        " # x",
+        " loop:",
+        "loop :",
+        "loop",
+        ":",
+        "Loop:",
+        "_a:",
+        "1a:",
+        "a-b:",
+        "a_0123456789_0123456789_012345678:",
+        "beq x10, x0, Loop",
+        "beq x010, x0, loop",
+        "beq x10, loop",
+        "li x10, 2147481600",
+        "li x10, 007",
+        "li x10, -1",
+        "la x10, 5",
+        "lab x10, 16777216",
+        "bytes ",
+        "bytes 0af",
+        "bytes 0AFF",
+        "bytes 0a ff",
+    ];
+    for text in texts.iter() {
+        let line = text.as_bytes();
+        assert!(rt; line.len() <= 64, "{text}");
+        assert!(rt; read_line(line).is_none(), "{text}");
+    }
+    Ok(())
+}

@@ -1,0 +1,5 @@
+pub mod Names
+pub mod Spelling
+pub mod Text
+pub mod Reading
+pub mod Digits
