@@ -1,6 +1,6 @@
 //! The text of a report.
 
-ghost use Rattle.std.specs.Prelude.{◌≡◌, ◌≤◌, ◌+◌, ◌++◌, length};
+ghost use Rattle.std.specs.Prelude.{◌≡◌, ◌<◌, ◌≤◌, ◌+◌, ◌++◌, length};
 ghost use Rattle.std.specs.List.{concat};
 ghost use Rattle.osc_calls.specs.Lines.{report_line, fault_text, place_text};
 
@@ -75,12 +75,12 @@ fn append_fault(fault: Fault, place: Place, into: &mut LineBuf)
     }
 }
 
-/// The line of a report, without a newline; it replaces what the buffer held. Numbers are decimal, and
-/// addresses and header words are hexadecimal in lower case.
+/// The line of a report, without a newline, for which there is room; it replaces what the buffer held.
+/// Numbers are decimal, and addresses and header words are hexadecimal in lower case.
 #[tactic(auto, unfolding(osc_calls::specs::Lines::report_line))]
 pub fn line(report: &Report, into: &mut LineBuf)
     ensures text { into.new ≡ report_line report.now }
-    ensures fits { length into.new ≤ 256 }
+    ensures fits { length into.new < 256 }
 {
     into.clear();
     into.decimal(b"fault: process ", u64::from(report.pid));

@@ -1,0 +1,4 @@
+pub mod Numbers
+pub mod Choices
+pub mod Command
+pub mod Words
