@@ -1,12 +1,13 @@
 //! A hart in a loop of register instructions, loads and stores, over a vector of words and without a
 //! kernel.
 
-ghost use Rattle.std.specs.Prelude.{◌≡◌};
-ghost use Rattle.osc_guest.specs.Hands.{HandAgrees};
+ghost use Rattle.std.specs.Prelude.{◌≡◌, IfOk, IfSome};
+ghost use Rattle.osc_guest.specs.Ranges.{BoxIn, StartIn};
+ghost use Rattle.osc_hart.specs.Within.{Driven};
 
 use osc_cache::has_32_slots;
-use osc_guest::{Ask, hands_move, places_ask, stays_exactly};
-use osc_hart::{HartBox, Told, UserHart};
+use osc_guest::{Ask, places_ask};
+use osc_hart::{HartBox, Told, UserHart, boxes_fit, stays_driven};
 use osc_sv39::{PteBits, leaf, table};
 use osc_word::{Regs, Start, WordAt};
 use std::alloc::{AllocError, Global};
@@ -43,9 +44,20 @@ struct Memory {
     home: Option<HartBox>,
 }
 
+/// A new box, which names no frame.
+fn at_home(alloc: Global) -> Result<HartBox, AllocError>
+    ensures { IfOk result (BoxIn 5) }
+{
+    boxes_fit();
+    let hart_box = HartBox::new(alloc)?;
+    Ok(hart_box)
+}
+
 impl Memory {
     /// Tables for one page of instructions and one of data.
-    fn new(alloc: Global) -> Result<Memory, AllocError> {
+    fn new(alloc: Global) -> Result<Memory, AllocError>
+        ensures { IfOk result (λ memory. IfSome memory.home (BoxIn 5)) }
+    {
         let mut words = vec![in alloc; 0; FRAMES as usize * FRAME_WORDS]?;
         words[0] = table(1);
         words[FRAME_WORDS] = table(2);
@@ -57,7 +69,7 @@ impl Memory {
         Ok(Memory {
             words,
             version: 0,
-            home: Some(HartBox::new(alloc)?),
+            home: Some(at_home(alloc)?),
         })
     }
 }
@@ -74,7 +86,9 @@ impl Memory {
     }
 
     /// Stores a word of a frame, where there is such a frame.
-    fn store(&mut self, at: WordAt, value: u64) {
+    fn store(&mut self, at: WordAt, value: u64)
+        ensures { self.new.home ≡ self.old.home }
+    {
         let place = place_of(at);
         if place < self.words.len() {
             self.words[place] = value;
@@ -90,6 +104,7 @@ fn place_of(at: WordAt) -> usize {
 /// The sum of the instructions that a hart runs in `count` steps and of what its loop adds up.
 pub fn stepped(alloc: Global, count: u64) -> Result<u64, AllocError> {
     let mut memory = Memory::new(alloc)?;
+    stays_driven();
     let mut hart = UserHart::begin(&start());
     for _ in 0..count {
         step(&mut hart, &mut memory);
@@ -98,7 +113,9 @@ pub fn stepped(alloc: Global, count: u64) -> Result<u64, AllocError> {
 }
 
 /// A thread at the first instruction of the loop.
-fn start() -> Start {
+fn start() -> Start
+    ensures { StartIn 5 result }
+{
     let mut regs = Regs::new();
     regs.set(10, DATA);
     Start {
@@ -113,12 +130,12 @@ fn start() -> Start {
 
 /// Does what the hart asks for next, and tells it so. What the loop never asks for is not done.
 fn step(hart: &mut UserHart, memory: &mut Memory)
-    requires { HandAgrees hart.old.hart }
-    ensures { HandAgrees hart.new.hart }
+    requires { Driven 5 hart.old.hart memory.old.home }
+    ensures { Driven 5 hart.new.hart memory.new.home }
 {
-    hands_move();
-    stays_exactly();
     places_ask();
+    boxes_fit();
+    stays_driven();
     match hart.ask() {
         Ask::TakeBox => {
             if let Some(hart_box) = memory.home.take() {

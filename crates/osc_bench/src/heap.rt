@@ -1,4 +1,4 @@
-//! Blocks of a heap over 4096 frames: blocks of every size class and of two pages in turn, or of 24 bytes.
+//! Blocks of a heap over 4096 frames: of every size class and of two pages in turn, of 24 bytes, or of 64 pages.
 
 ghost use Rattle.std.specs.Prelude.{IfOk};
 ghost use Rattle.osc_class.specs.Rooms.{IsRoom};
@@ -27,6 +27,8 @@ pub enum Blocks {
     Small,
     /// Of 24 bytes, 100,000 at a time.
     ManySmall,
+    /// Of 64 pages, 63 at a time.
+    Whole,
 }
 
 impl Blocks {
@@ -34,6 +36,7 @@ impl Blocks {
         match self {
             Blocks::Mixed | Blocks::Small => 512,
             Blocks::ManySmall => 100_000,
+            Blocks::Whole => 63,
         }
     }
 
@@ -41,6 +44,7 @@ impl Blocks {
         match self {
             Blocks::Mixed => REQUESTS[(number % 14) as usize],
             Blocks::Small | Blocks::ManySmall => 24,
+            Blocks::Whole => 262_128,
         }
     }
 }

@@ -1,5 +1,6 @@
 -- What a source that was read to its end gave, and what is due for it.
-use Rattle.std.specs.Prelude.{nat_lt, if◌then◌else◌, Bool}
+use Rattle.std.specs.Prelude.{◌≢◌, nat_lt, if◌then◌else◌, Bool, Vec}
+use Rattle.std.specs.declared.alloc.Global.{Global}
 use Rattle.std.proofs.Common.{◌≡◌, ℕ, ◌<◌, ◌≤◌, true, false, List, [], ◌++◌, length, drop, None, Some, Ok, Err, refl, sym, ◌∙◌, ap, subst, inl, inr, length-append, append-nil, arith}
 use Rattle.std.proofs.Math.Seq.{drop-append_seam}
 use Rattle.std.proofs.Math.Nat.{eq-or-lt_of_le}
@@ -13,14 +14,26 @@ use Rattle.osc_image.specs.Image.{Image}
 use Rattle.osc_image.specs.declared.ImageFault.{ImageFault}
 use Rattle.osc_image.specs.declared.ImageFault.TheVariants as fault
 use Rattle.osc_image.specs.Form.{header_fault, image_of}
-use Rattle.osc_top.specs.declared.outcome.Outcome.{Outcome}
-use Rattle.osc_top.specs.declared.outcome.Outcome.TheVariants.{UnknownWords, BadImage, NoRoom, SourceFault, NoMemory, Spent, Fault, Exit}
+use Rattle.osc_cli.specs.declared.task.Task.{Task}
+use Rattle.osc_cli.specs.declared.task.Mode.{Mode}
+use Rattle.osc_cli.specs.declared.task.Mode.TheVariants.{Run, Seed, Object, Gen}
 use Rattle.osc_image.specs.Frames.{needed_frames}
-use Rattle.osc_flat.specs.Flat.{Progress, Running, Exited, Faulted, flat}
-use Rattle.osc_top.specs.Due.{Due, due_of_progress, due_of_image, due_of, budget, frame_count, HasGuestStatus}
-use Rattle.osc_top.specs.Answer.{IsRead, Cause, Decided, longest_read}
-use Rattle.osc_top.specs.Loading.{IsLoaded}
-use Rattle.osc_top.specs.Deciding.{Yields, IsDue}
+use Rattle.osc_machine.specs.declared.Ending.{Ending}
+use Rattle.osc_machine.specs.declared.Ending.TheVariants as ending
+use Rattle.osc_machine.specs.Parts.{State}
+use Rattle.osc_machine.specs.Start.{start_of}
+use Rattle.osc_machine.specs.Run.{run}
+use Rattle.osc_machine.specs.Views.{ending_of, machine_over}
+use Rattle.osc_seed.specs.Seeded.{picks_made}
+use Rattle.osc_top.specs.declared.outcome.Outcome.{Outcome}
+use Rattle.osc_top.specs.declared.outcome.Outcome.TheVariants.{UnknownWords, BadOption, BadImage, NoRoom, SourceFault, NoMemory, Spent, Fault, Exit}
+use Rattle.osc_top.specs.declared.outcome.Refusal.{Refusal}
+use Rattle.osc_top.specs.declared.outcome.Refusal.TheVariants as refusal
+use Rattle.osc_top.specs.declared.decision.Decision.{Decision}
+use Rattle.osc_top.specs.Due.{Due, due_of, image_due, outcome_of, over_due, refused, run_due, HasGuestStatus}
+use Rattle.osc_top.specs.Answer.{IsRead, HasFile, TakesFront, FromFile, TaskCause, TaskDecided}
+use Rattle.osc_top.specs.Loading.{IsLoaded, Loads, TakesPart, longest_read}
+use Rattle.osc_top.specs.Deciding.{due_in, Decides, HasBytes, IsDecided, Obtains}
 
 -- a file that is too long is no image
 image_of-long : (file : List ℕ) → 16777216 < length file → image_of file ≡ Err fault.TooLong
@@ -28,118 +41,161 @@ unfolding image_of header_fault
 image_of-long file long = let test : nat_lt 16777216 (length file) ≡ true = grind (arith, nat_tests) in rw test refl
 
 -- what is due for a file that is too long does not depend on what follows
-due_of-long : (file more : List ℕ) → length file ≡ longest_read → due_of (file ++ more) ≡ due_of file
+due_of-long : (task : Task) (file more : List ℕ) → length file ≡ longest_read → due_of task (file ++ more) ≡ due_of task file
 unfolding due_of
-due_of-long file more long =
+due_of-long task file more long =
     let longer : 16777216 < length (file ++ more) = rw length-append (omega arith) in
     let this : 16777216 < length file = omega arith in
-    ap due_of_image (image_of-long (file ++ more) longer ∙ sym (image_of-long file this))
+    ap (image_due task) (image_of-long (file ++ more) longer ∙ sym (image_of-long file this))
 
 -- the whole of what the source had
-record Whole (before after : Option (List ℕ)) (file : List ℕ) : Type 0 where
+record Whole (task : Task) (before after : Option (List ℕ)) (file : List ℕ) : Type 0 where
   all : List ℕ
-  same : due_of file ≡ due_of all
+  same : due_of task file ≡ due_of task all
   read : IsRead before after all
 
 ends-untold : (after : Option (List ℕ)) (file : List ℕ) → Consumes None after file → after ≡ None
 ends-untold None file taken = refl
 ends-untold (Some left) file taken = cc
 
-whole-short : (before : List ℕ) (after : Option (List ℕ)) (file left : List ℕ) → after ≡ Some left → before ≡ file ++ left
-    → left ≡ [] → length file ≤ longest_read → Whole (Some before) after file
-whole-short before after file left known split none bound =
+whole-short : (task : Task) (before : List ℕ) (after : Option (List ℕ)) (file left : List ℕ) → after ≡ Some left → before ≡ file ++ left
+    → left ≡ [] → length file ≤ longest_read → Whole task (Some before) after file
+whole-short task before after file left known split none bound =
     let same : before ≡ file = split ∙ (ap (λ rest. file ++ rest) none ∙ append-nil file) in
     let short : length before ≤ longest_read = rw same bound in
-    record { all = before; same = ap due_of (sym same); read = (refl, known ∙ ap Some (none ∙ sym (drop_all longest_read before short))) }
+    record { all = before; same = ap (due_of task) (sym same); read = (refl, known ∙ ap Some (none ∙ sym (drop_all longest_read before short))) }
 
-whole-long : (before : List ℕ) (after : Option (List ℕ)) (file left : List ℕ) → after ≡ Some left → before ≡ file ++ left
-    → length file ≡ longest_read → Whole (Some before) after file
-whole-long before after file left known split long =
+whole-long : (task : Task) (before : List ℕ) (after : Option (List ℕ)) (file left : List ℕ) → after ≡ Some left → before ≡ file ++ left
+    → length file ≡ longest_read → Whole task (Some before) after file
+whole-long task before after file left known split long =
     let rest : drop longest_read before ≡ left =
     ap (drop longest_read) split ∙ (ap (λ n. drop n (file ++ left)) (sym long) ∙ drop-append_seam file left) in
     record {
       all = before;
-      same = sym (ap due_of split ∙ due_of-long file left long);
+      same = sym (ap (due_of task) split ∙ due_of-long task file left long);
       read = (refl, known ∙ ap Some (sym rest));
     }
 
-whole-told : (before : List ℕ) (after : Option (List ℕ)) (file : List ℕ) → IsLoaded (Some before) after file
-    → Whole (Some before) after file
-whole-told before after file loaded =
+whole-told : (task : Task) (before : List ℕ) (after : Option (List ℕ)) (file : List ℕ) → IsLoaded (Some before) after file
+    → Whole task (Some before) after file
+whole-told task before after file loaded =
     let told = Consumes-told before after file loaded.taken in
     elim (eq-or-lt_of_le loaded.bound) [
-      | inl exact ↦ whole-long before after file told.0 told.1 told.2 exact
+      | inl exact ↦ whole-long task before after file told.0 told.1 told.2 exact
       | inr short ↦
           let ends = loaded.ends short in
-          whole-short before after file told.0 told.1 told.2 (rw told.1 at ends) loaded.bound
+          whole-short task before after file told.0 told.1 told.2 (rw told.1 at ends) loaded.bound
     ]
 
-whole-of : (before after : Option (List ℕ)) (file : List ℕ) → IsLoaded before after file → Whole before after file
-whole-of None after file loaded = record { all = file; same = refl; read = ends-untold after file loaded.taken }
-whole-of (Some before) after file loaded = whole-told before after file loaded
+whole-of : (task : Task) (before after : Option (List ℕ)) (file : List ℕ) → IsLoaded before after file → Whole task before after file
+whole-of task None after file loaded = record { all = file; same = refl; read = ends-untold after file loaded.taken }
+whole-of task (Some before) after file loaded = whole-told task before after file loaded
 
-due-of : (before after : Option (List ℕ)) (file : List ℕ) (due : Due) → IsLoaded before after file → due ≡ due_of file
-    → IsDue before after due
-due-of before after file due loaded gives =
-    let whole = whole-of before after file loaded in
-    record { file = whole.all; gives = gives ∙ whole.same; read = whole.read }
+-- ---- the file of a task
 
--- what the run of a file that was read whole comes to
-pub IsDue-loaded : (before after : Option (List ℕ)) (file : List ℕ) (due : Due) → IsLoaded before after file
-    → Yields due (due_of file) → IsDue before after due × HasGuestStatus due.outcome
-IsDue-loaded before after file due loaded yields = (due-of before after file due loaded yields.0, yields.1)
+reads-source : (mode : Mode) (number : ℕ) (before after : Option (List ℕ)) (file : List ℕ) → mode ≢ Gen → IsRead before after file
+    → HasFile mode number before after file
+reads-source Run number before after file no_gen read = read
+reads-source Seed number before after file no_gen read = read
+reads-source Object number before after file no_gen read = read
+reads-source Gen number before after file no_gen read = absurd (no_gen refl)
 
--- the outcomes that a file can have
+takes-source : (mode : Mode) (before after : Option (List ℕ)) → mode ≢ Gen → TakesPart before after → TakesFront mode before after
+takes-source Run before after no_gen taken = taken
+takes-source Seed before after no_gen taken = taken
+takes-source Object before after no_gen taken = taken
+takes-source Gen before after no_gen taken = absurd (no_gen refl)
+
+has-bytes : (task : Task) (before after : Option (List ℕ)) (file : List ℕ) → task.mode ≢ Gen → IsLoaded before after file
+    → HasBytes task before after file
+has-bytes task before after file no_gen loaded =
+    let whole = whole-of task before after file loaded in
+    record {
+      all = whole.all;
+      same = whole.same;
+      had = reads-source task.mode task.number before after whole.all no_gen whole.read;
+      front = takes-source task.mode before after no_gen (file, loaded.taken);
+    }
+
+-- what reading the source to its end comes to, in a mode that reads it
+pub Obtains-loads : (task : Task) (before after : Option (List ℕ)) (rose : Type 0) (read : Result (Vec ℕ Global) Refusal) → task.mode ≢ Gen
+    → Loads before after rose read → Obtains task before after rose read
+Obtains-loads task before after rose (Ok file) no_gen loads = has-bytes task before after file.items no_gen loads
+Obtains-loads task before after rose (Err refusal.Source) no_gen loads =
+    (loads.0, no_gen, takes-source task.mode before after no_gen loads.1)
+Obtains-loads task before after rose (Err refusal.Memory) no_gen loads = takes-source task.mode before after no_gen loads.1
+
+-- what is decided on the file that was had is what its whole is due
+pub IsDecided-bytes : (task : Task) (before after : Option (List ℕ)) (file : List ℕ) (d : Decision) → HasBytes task before after file
+    → Decides d (due_of task file) → IsDecided task before after d
+IsDecided-bytes task before after file d has decides =
+    record {
+      file = has.all;
+      decides = record { gives = decides.gives ∙ has.same; guest = decides.guest; sound = decides.sound };
+      had = has.had;
+    }
+
+-- ---- the outcomes that a file can have
 FromRun : Outcome → Type 0
 FromRun UnknownWords = ⊥
+FromRun (BadOption place) = ⊥
 FromRun (BadImage fault) = Unit {0}
-FromRun (NoRoom needed) = Unit {0}
+FromRun (NoRoom needed frames) = Unit {0}
 FromRun SourceFault = ⊥
 FromRun NoMemory = ⊥
-FromRun Spent = Unit {0}
+FromRun (Spent picks) = Unit {0}
 FromRun Fault = Unit {0}
 FromRun (Exit status) = Unit {0}
 
-due-from-run : (progress : Progress) → FromRun (due_of_progress progress).outcome
+end-from-run : (end : Option Ending) → FromRun (outcome_of end)
 unfolding FromRun
-due-from-run (Running hart) = tt
-due-from-run (Exited status output) = tt
-due-from-run (Faulted output) = tt
+end-from-run None = tt
+end-from-run (Some ending.Fault) = tt
+end-from-run (Some (ending.Exit status)) = tt
 
-room-from-run : (image : Image) (small : Bool) → FromRun (if small then record { outcome = NoRoom (needed_frames 3 image); output = [] } else due_of_progress (flat image budget)).outcome
+ran-from-run : (task : Task) (picks : ℕ) (s : State) (over : Bool) → FromRun (if over then over_due picks s else refused (Spent task.picks)).outcome
 unfolding FromRun
-room-from-run image true = tt
-room-from-run image false = due-from-run (flat image budget)
+ran-from-run task picks s true = end-from-run (ending_of s)
+ran-from-run task picks s false = tt
 
-image-from-run : (image : Result Image ImageFault) → FromRun (due_of_image image).outcome
+run-from-run : (task : Task) (start : State) → FromRun (run_due task start).outcome
+run-from-run task start =
+    let picks = picks_made start task.seed task.picks in
+    ran-from-run task (length picks) (run start picks).state (machine_over (run start picks).state)
+
+room-from-run : (task : Task) (image : Image) (small : Bool)
+    → FromRun (if small then refused (NoRoom (needed_frames task.config.levels image) task.config.frames) else run_due task (start_of image task.config)).outcome
 unfolding FromRun
-image-from-run (Err fault) = tt
-image-from-run (Ok image) = room-from-run image (nat_lt frame_count (needed_frames 3 image))
+room-from-run task image true = tt
+room-from-run task image false = run-from-run task (start_of image task.config)
 
-file-from-run : (file : List ℕ) → FromRun (due_of file).outcome
+image-from-run : (task : Task) (image : Result Image ImageFault) → FromRun (image_due task image).outcome
+unfolding FromRun
+image-from-run task (Err fault) = tt
+image-from-run task (Ok image) = room-from-run task image (nat_lt task.config.frames (needed_frames task.config.levels image))
+
+file-from-run : (task : Task) (file : List ℕ) → FromRun (due_of task file).outcome
 unfolding due_of
-file-from-run file = image-from-run (image_of file)
+file-from-run task file = image-from-run task (image_of file)
 
-cause-of : (words : ℕ) (before after : Option (List ℕ)) (rose : Type 0) (due : Due) (outcome : Outcome) → words ≤ 1
-    → IsDue before after due → FromRun outcome → HasGuestStatus outcome → Cause words before after rose due outcome
+cause-of : (task : Task) (before after : Option (List ℕ)) (rose : Type 0) (due : Due) (outcome : Outcome)
+    → FromFile task before after due → FromRun outcome → HasGuestStatus outcome → TaskCause task before after rose due outcome
 unfolding FromRun
-cause-of words before after rose due UnknownWords few is_due from_run guest = absurd from_run
-cause-of words before after rose due SourceFault few is_due from_run guest = absurd from_run
-cause-of words before after rose due NoMemory few is_due from_run guest = absurd from_run
-cause-of words before after rose due (BadImage fault) few is_due from_run guest =
-    record { no_word = few; file = is_due.file; gives = is_due.gives; read = is_due.read }
-cause-of words before after rose due (NoRoom needed) few is_due from_run guest =
-    record { no_word = few; file = is_due.file; gives = is_due.gives; read = is_due.read }
-cause-of words before after rose due Spent few is_due from_run guest =
-    record { no_word = few; file = is_due.file; gives = is_due.gives; read = is_due.read }
-cause-of words before after rose due Fault few is_due from_run guest =
-    record { no_word = few; file = is_due.file; gives = is_due.gives; read = is_due.read }
-cause-of words before after rose due (Exit status) few is_due from_run guest =
-    (guest, record { no_word = few; file = is_due.file; gives = is_due.gives; read = is_due.read })
+cause-of task before after rose due UnknownWords from from_run guest = absurd from_run
+cause-of task before after rose due (BadOption place) from from_run guest = absurd from_run
+cause-of task before after rose due SourceFault from from_run guest = absurd from_run
+cause-of task before after rose due NoMemory from from_run guest = absurd from_run
+cause-of task before after rose due (BadImage fault) from from_run guest = from
+cause-of task before after rose due (NoRoom needed frames) from from_run guest = from
+cause-of task before after rose due (Spent picks) from from_run guest = from
+cause-of task before after rose due Fault from from_run guest = from
+cause-of task before after rose due (Exit status) from from_run guest = (guest, from)
 
--- what is due for a file that was read is what was decided
-pub Decided-run : (words : ℕ) (before after : Option (List ℕ)) (rose : Type 0) (due : Due) → words ≤ 1
-    → IsDue before after due × HasGuestStatus due.outcome → Decided words before after rose due
-Decided-run words before after rose due few runs =
-    let from_run : FromRun due.outcome = subst (λ (d : Due). FromRun d.outcome) (sym runs.0.gives) (file-from-run runs.0.file) in
-    cause-of words before after rose due due.outcome few runs.0 from_run runs.1
+-- what is due for the file of a task is what was decided
+pub TaskDecided-file : (task : Task) (before after : Option (List ℕ)) (rose : Type 0) (d : Decision) → IsDecided task before after d
+    → TaskDecided task before after rose (due_in d)
+TaskDecided-file task before after rose d decided =
+    let from_run : FromRun (due_in d).outcome =
+    subst (λ (due : Due). FromRun due.outcome) (sym decided.decides.gives) (file-from-run task decided.file) in
+    cause-of task before after rose (due_in d) (due_in d).outcome
+    (record { file = decided.file; gives = decided.decides.gives; had = decided.had }) from_run decided.decides.guest

@@ -1,2 +1,4 @@
 pub mod Sinks
 pub mod Files
+pub mod Pieces
+pub mod Runs

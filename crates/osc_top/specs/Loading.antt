@@ -4,7 +4,14 @@ use Rattle.std.specs.declared.alloc.Global.{Global}
 use Rattle.osc_outside.specs.Bytes.{Consumes, IsAtEnd}
 use Rattle.osc_top.specs.declared.outcome.Refusal.{Refusal}
 use Rattle.osc_top.specs.declared.outcome.Refusal.TheVariants as refusal
-use Rattle.osc_top.specs.Answer.{longest_read, TakesFront}
+
+-- the most bytes that are read: one more than the longest file
+abbrev pub longest_read : ℕ
+longest_read = 16777217
+
+-- only the front of what the source had was taken
+abbrev pub TakesPart : Option (List ℕ) → Option (List ℕ) → Type 0
+TakesPart before after = (taken : List ℕ) × Consumes before after taken
 
 -- the front of the buffer has the first bytes that were left, and none is the end
 abbrev pub ReadsFront : {E : Type 0} → Option (List ℕ) → Option (List ℕ) → Result ℕ E → List ℕ → Type 0
@@ -24,4 +31,10 @@ StopsAt rose refusal.Memory = Unit {0}
 
 abbrev pub Loads : Option (List ℕ) → Option (List ℕ) → Type 0 → Result (Vec ℕ Global) Refusal → Type 0
 Loads before after rose (Ok file) = IsLoaded before after file.items
-Loads before after rose (Err why) = StopsAt rose why × TakesFront before after
+Loads before after rose (Err why) = StopsAt rose why × TakesPart before after
+
+-- only a fault of the source lets its count rise
+abbrev pub IsQuietRead : {T : Type 0} → ℕ → ℕ → Result T Refusal → Type 0
+IsQuietRead before after (Ok read) = after ≡ before
+IsQuietRead before after (Err refusal.Source) = Unit {0}
+IsQuietRead before after (Err refusal.Memory) = after ≡ before

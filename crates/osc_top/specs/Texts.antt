@@ -1,11 +1,13 @@
 -- The texts that a person reads of what is refused. This project's own. Numbers are decimal, and those
 -- that begin with 0x are hexadecimal in lower case.
-use Rattle.std.specs.Prelude.{ℕ, false, List, [], ◌++◌, ◌∷◌, codes}
+use Rattle.std.specs.Prelude.{ℕ, false, List, [], ◌∷◌, codes}
 use Rattle.std.specs.Fmt.{decimal, digits}
+use Rattle.std.specs.List.{concat}
 use Rattle.osc_image.specs.declared.ImageFault.{ImageFault}
 use Rattle.osc_image.specs.declared.ImageFault.TheVariants.{TooLong, Truncated, Magic, Class, FileType, Machine, Version, Flags, HeaderSize, Segment, WriteExec, Entry, Memory}
 use Rattle.osc_image.specs.declared.SegmentWhy.{SegmentWhy}
 use Rattle.osc_image.specs.declared.SegmentWhy.TheVariants.{TableEnd, Dynamic, Interpreter, ThreadStorage, Sizes, FileEnd, Range}
+use Rattle.osc_machine.specs.Due.{ended_line}
 
 abbrev pub why_text : SegmentWhy → List ℕ
 why_text TableEnd = codes "table end"
@@ -15,6 +17,9 @@ why_text ThreadStorage = codes "thread storage"
 why_text Sizes = codes "sizes"
 why_text FileEnd = codes "file end"
 why_text Range = codes "range"
+
+abbrev pub segment_text : ℕ → SegmentWhy → List (List ℕ)
+segment_text index why = codes "segment " ∷ decimal index ∷ codes " " ∷ why_text why ∷ []
 
 -- why a file is no image, in pieces; a page is told by its address, its number and three more digits
 abbrev pub fault_text : ImageFault → List (List ℕ)
@@ -27,12 +32,11 @@ fault_text Machine = codes "machine" ∷ []
 fault_text Version = codes "version" ∷ []
 fault_text Flags = codes "flags" ∷ []
 fault_text HeaderSize = codes "header size" ∷ []
-fault_text (Segment index why) = codes "segment " ∷ decimal index ∷ codes " " ∷ why_text why ∷ []
+fault_text (Segment index why) = segment_text index why
 fault_text (WriteExec page) = codes "write and execute at 0x" ∷ digits 16 false page ∷ codes "000" ∷ []
 fault_text (Entry address) = codes "entry 0x" ∷ digits 16 false address ∷ []
 fault_text Memory = codes "no memory" ∷ []
 
 -- the line of its pieces
 abbrev pub line : List (List ℕ) → List ℕ
-line [] = 10 ∷ []
-line (piece ∷ pieces) = piece ++ line pieces
+line pieces = ended_line (concat pieces)

@@ -2,7 +2,7 @@
 
 ghost use Rattle.std.specs.Prelude.{◌≡◌, ◌≤◌, ◌<◌, IfOk, vec_len, length};
 ghost use Rattle.osc_outside.specs.Faults.{Rose, HasCause};
-ghost use Rattle.osc_top.specs.Loading.{Loads, ReadsFront};
+ghost use Rattle.osc_top.specs.Loading.{IsQuietRead, Loads, ReadsFront};
 
 use crate::outcome::Refusal;
 use osc_outside::{Failed, Source};
@@ -36,6 +36,7 @@ fn read_front<S: Source>(source: &mut S, piece: &mut [u8], most: usize) -> Resul
 /// failed, and never `Image`. Whatever comes, only the front of what was left is taken.
 pub fn load<S: Source>(alloc: Global, source: &mut S) -> Result<Vec<u8>, Refusal>
     ensures later { S.faults source.old ≤ S.faults source.new }
+    ensures kept { IsQuietRead (S.faults source.old) (S.faults source.new) result }
     ensures loads { Loads (S.left source.old) (S.left source.new) (Rose (S.faults source.old) (S.faults source.new)) result }
 {
     let mut piece = buffer(alloc, PIECE)?;

@@ -1,165 +1,178 @@
 //! The top call.
 
-ghost use Rattle.std.specs.Prelude.{◌≡◌, ◌≤◌, ◌⊎◌, length, IfOk, Ok};
+ghost use Rattle.std.specs.Prelude.{ℕ, ◌≡◌, ◌≢◌, ◌≤◌, ◌<◌, List, length, map, IfOk, None, Ok};
 ghost use Rattle.osc_outside.specs.Faults.{Rose};
-ghost use Rattle.osc_flat.specs.Ran.{progress_of, EndsBelow64};
-ghost use Rattle.osc_top.specs.Due.{due_of, due_of_image, due_of_progress, HasGuestStatus};
-ghost use Rattle.osc_top.specs.Answer.{Decided, Answers};
-ghost use Rattle.osc_top.specs.Deciding.{Yields, Runs};
+ghost use Rattle.osc_word.specs.Limits.{first_fault};
+ghost use Rattle.osc_core.specs.Boot.{IsOfFile};
+ghost use Rattle.osc_core.specs.Ends.{EndFits};
+ghost use Rattle.osc_core.specs.Shared.{state_of};
+ghost use Rattle.osc_core.specs.Sound.{Sound};
+ghost use Rattle.osc_machine.specs.Run.{run};
+ghost use Rattle.osc_cli.specs.Words.{IsReady};
+ghost use Rattle.osc_top.specs.Due.{due_of, image_due, run_due, HasGuestStatus};
+ghost use Rattle.osc_top.specs.Answer.{Answers, Quiet, TaskAnswers, TaskDecided};
+ghost use Rattle.osc_top.specs.Deciding.{due_in, words_outcome, ComesTo, Decides, IsSound, Obtains};
+ghost use Rattle.osc_top.specs.Loading.{IsQuietRead};
+ghost use Rattle.osc_top.specs.declared.outcome.Outcome.TheVariants.{SourceFault};
 
+use crate::decision::{Decision, Over};
 use crate::delivery::deliver;
 use crate::loading::load;
-use crate::outcome::{
-    Line, MEMORY_LINE, NO_LINE, Outcome, Refusal, SOURCE_LINE, SPENT_LINE, Status, USAGE_LINE,
-    fault_line, room_line,
-};
+use crate::outcome::{Outcome, Refusal, Status};
+use osc_cli::{Mode, Task, WordsFault, read_words};
+use osc_core::laws::{ends_fit, starts_sound};
+use osc_core::{BootFault, Booted, Machine};
 use osc_elf::{Image, ImageFault, read_image};
-use osc_flat::{Hart, Ran};
+use osc_gen::guest_of;
 use osc_outside::{Sink, Source};
+use osc_seed::{SeededEnd, run_seeded};
 use std::alloc::{AllocError, Global};
-use std::marker::Model;
 
-/// The most instructions that are run.
-const BUDGET: u32 = 1_000_000;
-
-/// The frames of the machine, and the levels of its page tables.
-const FRAMES: u64 = 1024;
-
-const LEVELS: u8 = 3;
-
-/// What is due: how the call ends, the guest's output, and the line of that end.
-#[derive(Drop)]
-struct Decision {
-    outcome: Outcome,
-    output: Vec<u8>,
-    line: Line,
-}
-
-impl Model for Decision {
-    ghost use Rattle.std.specs.Prelude.{◌≡◌};
-    ghost use Rattle.osc_top.specs.Due.{Due, line_of};
-    ghost use Rattle.osc_top.specs.Line.{text_of};
-
-    ghost Value = { Due };
-
-    ghost view = { λ d. record { outcome = d.outcome; output = d.output.items } };
-
-    ghost invariant = { λ d. text_of d.line ≡ line_of d.outcome };
-}
-
-impl Decision {
-    ghost use Rattle.std.specs.Prelude.{◌≡◌, [], string_bytes};
-    ghost use Rattle.osc_top.specs.Due.{line_of};
-
-    /// An outcome whose line is always the same, and what the guest wrote. It takes no memory.
-    fn fixed(outcome: Outcome, output: Vec<u8>, line: &'static str) -> Decision
-        requires { line.now ≡ line_of outcome }
-        ensures { result ≡ record { outcome = outcome; output = output.items } }
-    {
-        Decision {
-            outcome,
-            output,
-            line: Line::Fixed(line),
-        }
-    }
-
-    /// The refusal of an image, with its line.
-    fn refused(alloc: Global, outcome: Outcome, line: String) -> Decision
-        requires { string_bytes line ≡ line_of outcome }
-        ensures { result ≡ record { outcome = outcome; output = [] } }
-    {
-        Decision {
-            outcome,
-            output: Vec::new(alloc),
-            line: Line::Made(line),
-        }
+/// Runs a machine from its start by the seed of a task.
+fn run_booted(task: &Task, booted: Booted) -> Decision
+    requires harts { 0 < length booted.harts.items }
+    requires sound { Sound (state_of booted.machine booted.harts.items) }
+    requires ends { (picks : List ℕ) → EndFits (run (state_of booted.machine booted.harts.items) picks).state }
+    ensures { Decides result (run_due task.now (state_of booted.machine booted.harts.items)) }
+{
+    let Booted {
+        mut machine,
+        mut harts,
+    } = booted;
+    match run_seeded(&mut machine, &mut harts, task.seed, task.picks) {
+        SeededEnd::Over { picks } => Decision::Ran(Over {
+            machine,
+            harts,
+            picks,
+        }),
+        SeededEnd::Spent => Decision::Refused(Outcome::Spent { picks: task.picks }),
     }
 }
 
 /// Runs an image, if it fits the frames.
-#[tactic(auto, unfolding(osc_flat::specs::Flat::flat))]
-fn run_image(alloc: Global, image: &Image) -> Result<Decision, AllocError>
-    ensures { IfOk result (λ d. Yields d (due_of_image (Ok image.now))) }
+fn run_image(alloc: Global, task: &Task, image: &Image) -> Result<Decision, AllocError>
+    requires image { IsOfFile image.now }
+    requires config { first_fault task.now.config ≡ None }
+    ensures { IfOk result (λ d. Decides d (image_due task.now (Ok image.now))) }
 {
-    let needed = image.needed_frames(LEVELS);
-    if needed > FRAMES {
-        let line = room_line(alloc, needed)?;
-        return Ok(Decision::refused(alloc, Outcome::NoRoom { needed }, line));
-    }
-    let mut hart = Hart::start(alloc, image)?;
-    let ran = hart.run(BUDGET);
-    Ok(decision_of(alloc, ran, hart))
-}
-
-/// What is due for a run.
-fn decision_of(alloc: Global, ran: Ran, hart: Hart) -> Decision
-    requires { EndsBelow64 ran }
-    ensures { Yields result (due_of_progress (progress_of ran hart)) }
-{
-    match ran {
-        Ran::On => Decision::fixed(Outcome::Spent, Vec::new(alloc), SPENT_LINE),
-        Ran::Exit(status) => Decision::fixed(Outcome::Exit(status), hart.into_output(), NO_LINE),
-        Ran::Fault => Decision::fixed(Outcome::Fault, hart.into_output(), NO_LINE),
+    starts_sound();
+    ends_fit();
+    match Machine::boot(alloc, image, &task.config) {
+        Ok(booted) => Ok(run_booted(task, booted)),
+        Err(BootFault::NoRoom { needed, frames }) => {
+            Ok(Decision::Refused(Outcome::NoRoom { needed, frames }))
+        }
+        Err(BootFault::Config(_) | BootFault::Memory) => Err(AllocError),
     }
 }
 
 /// Runs a file, if it is an image.
 #[tactic(auto, unfolding(crate::specs::Due::due_of))]
-fn run_file(alloc: Global, file: &[u8]) -> Result<Decision, AllocError>
-    ensures { IfOk result (λ d. Yields d (due_of file.now)) }
+fn run_file(alloc: Global, task: &Task, file: &[u8]) -> Result<Decision, AllocError>
+    requires config { first_fault task.now.config ≡ None }
+    ensures { IfOk result (λ d. Decides d (due_of task.now file.now)) }
 {
     match read_image(alloc, file) {
-        Ok(image) => run_image(alloc, &image),
+        Ok(image) => run_image(alloc, task, &image),
         Err(ImageFault::Memory) => Err(AllocError),
-        Err(fault) => {
-            let line = fault_line(alloc, &fault)?;
-            Ok(Decision::refused(alloc, Outcome::BadImage(fault), line))
-        }
+        Err(fault) => Ok(Decision::Refused(Outcome::BadImage(fault))),
     }
 }
 
-/// Reads a source to its end and runs what it gave.
-fn run_source<S: Source>(alloc: Global, source: &mut S) -> Result<Decision, Refusal>
+/// The file of a task: what the source has, or the guest of a number.
+fn obtain<S: Source>(alloc: Global, task: &Task, source: &mut S) -> Result<Vec<u8>, Refusal>
     ensures later { S.faults source.old ≤ S.faults source.new }
-    ensures taken { Runs (S.left source.old) (S.left source.new) (Rose (S.faults source.old) (S.faults source.new)) result }
+    ensures kept { IsQuietRead (S.faults source.old) (S.faults source.new) result }
+    ensures obtains { Obtains task.now (S.left source.old) (S.left source.new) (Rose (S.faults source.old) (S.faults source.new)) result }
 {
-    let file = load(alloc, source)?;
-    let decision = run_file(alloc, &file)?;
+    match task.mode {
+        Mode::Gen => Ok(guest_of(alloc, task.number)?),
+        Mode::Run | Mode::Seed | Mode::Object => load(alloc, source),
+    }
+}
+
+/// Runs the file of a task.
+fn run_task<S: Source>(alloc: Global, task: &Task, source: &mut S) -> Result<Decision, Refusal>
+    requires config { first_fault task.now.config ≡ None }
+    ensures later { S.faults source.old ≤ S.faults source.new }
+    ensures kept { IsQuietRead (S.faults source.old) (S.faults source.new) result }
+    ensures comes { ComesTo task.now (S.left source.old) (S.left source.new) (Rose (S.faults source.old) (S.faults source.new)) result }
+{
+    let file = obtain(alloc, task, source)?;
+    let decision = run_file(alloc, task, &file)?;
     Ok(decision)
 }
 
-/// What is due for the words and the source.
-fn decide<S: Source>(alloc: Global, words: &[&str], source: &mut S) -> Decision
+/// What is due for a task and a source.
+fn decide<S: Source>(alloc: Global, task: &Task, source: &mut S) -> Decision
+    requires ready { IsReady task.now }
     ensures later { S.faults source.old ≤ S.faults source.new }
-    ensures guest { HasGuestStatus result.outcome }
-    ensures decided { Decided (length words.now) (S.left source.old) (S.left source.new)
-        (Rose (S.faults source.old) (S.faults source.new)) result }
+    ensures kept { (due_in result).outcome ≢ SourceFault → S.faults source.new ≡ S.faults source.old }
+    ensures guest { HasGuestStatus (due_in result).outcome }
+    ensures sound { IsSound result }
+    ensures decided { TaskDecided task.now (S.left source.old) (S.left source.new)
+        (Rose (S.faults source.old) (S.faults source.new)) (due_in result) }
 {
-    if words.len() > 1 {
-        return Decision::fixed(Outcome::UnknownWords, Vec::new(alloc), USAGE_LINE);
-    }
-    match run_source(alloc, source) {
+    match run_task(alloc, task, source) {
         Ok(decision) => decision,
-        Err(Refusal::Source) => Decision::fixed(Outcome::SourceFault, Vec::new(alloc), SOURCE_LINE),
-        Err(Refusal::Memory) => Decision::fixed(Outcome::NoMemory, Vec::new(alloc), MEMORY_LINE),
+        Err(Refusal::Source) => Decision::Refused(Outcome::SourceFault),
+        Err(Refusal::Memory) => Decision::Refused(Outcome::NoMemory),
     }
 }
 
-/// Runs the image that the source gives, writes the guest's output to `out` and then a line to `err`, if
-/// there is one to write, and answers the exit status. `words[0]` is the program's name.
+/// Does a task: takes its image from the source, or makes it in mode gen, runs the machine by the picks of
+/// the task's seed, writes the guest's output to `out`, and then to `err` a line for each report, in the
+/// order of the ends that they tell, and the summary. Where nothing is run, and where the machine is not
+/// over after the picks, it writes nothing to `out` and one line to `err` that says why. It waits for nobody
+/// and always returns.
 ///
 /// | Status | Comes |
 /// |---|---|
-/// | 0 to 63 | exactly where the guest ended with it |
-/// | 64 | exactly where there is a word after the program's name; nothing is read |
-/// | 65 | exactly where the file is no image, with its first fault, or needs more than 1024 frames |
-/// | 66 | only where the source failed; nothing is run |
-/// | 67 | only where `out` or `err` failed; it comes before every other status |
-/// | 68 | where memory ran out before the first instruction |
-/// | 69 | exactly where the guest has not ended after 1000000 instructions |
-/// | 70 | exactly where the guest ended by a fault |
+/// | 0 to 63 | exactly where the machine is over and process 0 ended with it |
+/// | 65 | exactly where the file is no image, with its first fault, or needs more frames than there are, with both numbers |
+/// | 66 | only where the source failed, and never in mode gen; nothing is run |
+/// | 67 | only where `out` or `err` failed; where `out` did not, it has all of the output; it comes before every other status |
+/// | 68 | where memory ran out before the first step |
+/// | 69 | exactly where the machine is not over after the picks |
+/// | 70 | exactly where the machine is over and process 0 ended by a fault |
 ///
-/// The source is read to its end, or to 16 MiB and one byte.
+/// The source is read to its end, or to 16 MiB and one byte; in mode gen it is not read. With another status
+/// than 66 and 67 no call of source or sinks failed: none is tried again.
+pub fn oscar_seeded<S: Source, O: Sink, E: Sink>(
+    alloc: Global,
+    task: &Task,
+    source: &mut S,
+    out: &mut O,
+    err: &mut E,
+) -> Status
+    requires ready { IsReady task.now }
+    ensures later { S.faults source.old ≤ S.faults source.new }
+    ensures answers { TaskAnswers task.now (S.left source.old) (S.left source.new)
+        (O.holds out.old) (O.holds out.new) (E.holds err.old) (E.holds err.new)
+        (Rose (S.faults source.old) (S.faults source.new))
+        (Rose (O.faults out.old) (O.faults out.new)) (Rose (E.faults err.old) (E.faults err.new)) result.0 }
+    ensures quiet { Quiet (S.faults source.old) (S.faults source.new) (O.faults out.old) (O.faults out.new)
+        (E.faults err.old) (E.faults err.new) result.0 }
+{
+    let decision = decide(alloc, task, source);
+    deliver(&decision, out, err)
+}
+
+/// Why words are no task, as the outcome of the call.
+fn outcome_of(fault: WordsFault) -> Outcome
+    ensures { result ≡ words_outcome fault }
+{
+    match fault {
+        WordsFault::Words => Outcome::UnknownWords,
+        WordsFault::Value(place) => Outcome::BadOption(place),
+        WordsFault::Memory => Outcome::NoMemory,
+    }
+}
+
+/// Reads the words of the command, of which the first is the program's name, and does the task that they
+/// ask for, as `oscar_seeded` says. Where they ask for none the status is 64, nothing is read and run, and
+/// the line on `err` names the first option whose text is not allowed, or says `words` where the words are
+/// not options, each with one value and at most once. Memory may run out while words are read: 68.
 pub fn oscar<S: Source, O: Sink, E: Sink>(
     alloc: Global,
     words: &[&str],
@@ -168,17 +181,15 @@ pub fn oscar<S: Source, O: Sink, E: Sink>(
     err: &mut E,
 ) -> Status
     ensures later { S.faults source.old ≤ S.faults source.new }
-    ensures answers { Answers (length words.now) (S.left source.old) (S.left source.new)
+    ensures answers { Answers (map (λ word. word.now) words.now) (S.left source.old) (S.left source.new)
         (O.holds out.old) (O.holds out.new) (E.holds err.old) (E.holds err.new)
         (Rose (S.faults source.old) (S.faults source.new))
-        (Rose (O.faults out.old) (O.faults out.new) ⊎ Rose (E.faults err.old) (E.faults err.new)) result.0 }
+        (Rose (O.faults out.old) (O.faults out.new)) (Rose (E.faults err.old) (E.faults err.new)) result.0 }
+    ensures quiet { Quiet (S.faults source.old) (S.faults source.new) (O.faults out.old) (O.faults out.new)
+        (E.faults err.old) (E.faults err.new) result.0 }
 {
-    let decision = decide(alloc, words, source);
-    deliver(
-        decision.outcome,
-        &decision.output,
-        decision.line.as_str(),
-        out,
-        err,
-    )
+    match read_words(alloc, words) {
+        Ok(task) => oscar_seeded(alloc, &task, source, out, err),
+        Err(fault) => deliver(&Decision::Refused(outcome_of(fault)), out, err),
+    }
 }

@@ -3,46 +3,42 @@
 
 use osc_outside::{StdSink, StdSource};
 use osc_top::{MEMORY_LINE, Outcome, Status, oscar};
-use std::alloc::AllocError;
+use std::alloc::{AllocError, Global};
+use std::env::{Env, FillError};
 use std::process::ExitCode;
-use std::{env, io};
 
-/// A word that the command does not know. It stands for a word that is not UTF-8.
-const UNKNOWN_WORD: &str = "";
+/// The most bytes of a word and its end (Linux, `execve(2)`, MAX_ARG_STRLEN).
+const LONGEST_WORD: usize = 131_072;
 
 fn main(rt: HostRuntime) -> ExitCode {
     let status = match words(&rt) {
         Ok(words) => run(&rt, &words),
-        Err(WordsError::NotText) => run_with(&rt, &["oscar", UNKNOWN_WORD]),
-        Err(WordsError::Memory) => no_memory(&rt),
+        Err(AllocError) => no_memory(&rt),
     };
     ExitCode::from(status.0)
 }
 
-/// Why the words could not be read.
-enum WordsError {
-    NotText,
-    Memory,
+/// The words of the command, the program's name first. What is no UTF-8 in a word is U+FFFD, which stands
+/// in no option's name and in no value of one.
+fn words(rt: &HostRuntime) -> Result<Vec<String>, AllocError> {
+    let mut bytes = buffer(rt.alloc())?;
+    let mut words = Vec::new(rt.alloc());
+    for at in 0..usize::MAX {
+        match rt.arg(at, &mut bytes) {
+            Ok(length) => words.push(text(rt.alloc(), &bytes, length)?)?,
+            Err(FillError::NotPresent | FillError::TooLong) => break,
+        }
+    }
+    Ok(words)
 }
 
-impl From<AllocError> for WordsError {
-    ghost use Rattle.std.specs.Prelude.{◌≡◌};
-    ghost use Rattle.oscar.specs.declared.WordsError.TheVariants.{Memory};
-
-    ghost from_gives = { λ _ error. error ≡ Memory };
-
-    fn from(_error: AllocError) -> WordsError {
-        WordsError::Memory
-    }
+fn buffer(alloc: Global) -> Result<Vec<u8>, AllocError> {
+    vec![in alloc; 0; LONGEST_WORD]
 }
 
-/// The words of the command, the program's name first.
-fn words(rt: &HostRuntime) -> Result<Vec<String>, WordsError> {
-    match env::args(rt) {
-        Ok(args) => Ok(args.collect(rt.alloc())?),
-        Err(error) if error.kind() == io::ErrorKind::OutOfMemory => Err(WordsError::Memory),
-        Err(_) => Err(WordsError::NotText),
-    }
+/// The text of the first bytes of a buffer.
+fn text(alloc: Global, bytes: &[u8], length: usize) -> Result<String, AllocError> {
+    String::from_utf8_lossy(alloc, &bytes[..length.min(bytes.len())])
 }
 
 fn run(rt: &HostRuntime, words: &[String]) -> Status {

@@ -1,6 +1,6 @@
-use Rattle.osc_guest.specs.Hands.{HandAgrees}
+use Rattle.osc_hart.specs.Within.{Driven}
 use Rattle.osc_bench.proofs.hart.stepped.Given as goal
 
--- the hart holds its box from the taking to the giving
+-- hart and box stay within the machine
 abbrev pub invariant-loop : goal.invariant-loop
-invariant-loop l = HandAgrees l.hart.hart
+invariant-loop l = Driven 5 l.hart.hart l.memory.home

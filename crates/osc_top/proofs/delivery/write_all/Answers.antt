@@ -10,5 +10,5 @@ loop-at-preserved g c =
       sent =
           Appends-take _ _ _ c.args.text.now c.loop-at.at c.in_ok-taken.taken c.loop-at.invariant.sent
           (rw take_rest at c.in_ok-taken.ensures.bytes);
-      later = omega (arith, c.write.ensures.cause.later);
+      kept = omega (arith, c.in_ok-taken.ensures.cause.done);
     }

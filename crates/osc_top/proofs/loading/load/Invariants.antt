@@ -7,7 +7,7 @@ invariant-loop-file g l =
     record {
       taken : Consumes (g.S.Source.left l.fn.source) (g.S.Source.left l.source) l.file.items;
       bound : vec_len l.file ≤ 16777217;
-      later : g.S.Source.faults l.fn.source ≤ g.S.Source.faults l.source;
+      kept : g.S.Source.faults l.source ≡ g.S.Source.faults l.fn.source;
       piece : vec_len l.piece ≡ 65536;
     }
 
