@@ -4,7 +4,7 @@
 # too many. Each is an image, but needs more frames than the machine has unless the line says otherwise.
 set -eu
 cd "$(dirname "$0")/.."
-./run < examples/status.elf > /dev/null 2>&1 || true
+[ -x crates/oscar/out/oscar ] || ./prove
 program=crates/oscar/out/oscar
 work=$(mktemp -d)
 trap 'rm -rf "$work"' EXIT

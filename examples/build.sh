@@ -5,30 +5,34 @@ set -eu
 cd "$(dirname "$0")"
 objects=$(mktemp -d)
 trap 'rm -rf "$objects"' EXIT
-target=(-march=rv64im -mabi=lp64)
+target=(-march=rv64ima -mabi=lp64)
 
+# assemble SOURCE OBJECT
 assemble() {
-    riscv64-unknown-elf-as "${target[@]}" -mno-arch-attr -o "$objects/$1.o" "$1.s"
+    riscv64-unknown-elf-as "${target[@]}" -mno-arch-attr -o "$2" "$1"
 }
 
-# image NAME OBJECT..
+# compile SOURCE OBJECT
+compile() {
+    riscv64-unknown-elf-gcc "${target[@]}" -mcmodel=medany -O1 -ffreestanding -Wall -Wextra -I . -c -o "$2" "$1"
+}
+
+# image NAME WORD.., where the words are objects and words for the linker
 image() {
     local name=$1
     shift
-    riscv64-unknown-elf-gcc "${target[@]}" -static -nostdlib \
-        -Wl,--no-relax -Wl,--build-id=none -o "$name.elf" "$@" -lgcc
+    riscv64-unknown-elf-gcc "${target[@]}" -static -nostdlib -Wl,--build-id=none -o "$name.elf" "$@" -lgcc
     riscv64-unknown-elf-strip "$name.elf"
 }
 
-assemble start
+assemble start.s "$objects/start.o"
 for source in *.s; do
-    name=${source%.s}
-    [ "$name" != start ] || continue
-    assemble "$name"
-    image "$name" "$objects/$name.o"
+    [ "$source" != start.s ] || continue
+    assemble "$source" "$objects/guest.o"
+    # without start.s nobody sets gp
+    image "${source%.s}" -Wl,--no-relax "$objects/guest.o"
 done
-for source in *.c; do
-    name=${source%.c}
-    riscv64-unknown-elf-gcc "${target[@]}" -O1 -ffreestanding -Wall -Wextra -c -o "$objects/$name.o" "$source"
-    image "$name" "$objects/start.o" "$objects/$name.o"
+for source in *.c bugs/*.c; do
+    compile "$source" "$objects/guest.o"
+    image "${source%.c}" "$objects/start.o" "$objects/guest.o"
 done

@@ -37,7 +37,7 @@ int main(void)
         for (int digit = 0; digit < 8; digit++)
             digits[digit] = "0123456789abcdef"[sum >> (28 - 4 * digit) & 15];
         digits[8] = ' ';
-        write_bytes(digits, 9);
+        oscar_write(digits, 9);
         print(texts[i]);
         print("\n");
     }

@@ -51,7 +51,7 @@ int main(void)
     print(".");
     for (int digit = 0; digit < 60; digit++) {
         char shown = '0' + next_digit(sum);
-        write_bytes(&shown, 1);
+        oscar_write(&shown, 1);
     }
     print("\n");
     return 0;

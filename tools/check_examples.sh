@@ -1,26 +1,51 @@
 #!/usr/bin/env bash
-# Runs each example's image and compares what it writes with NAME.stdout beside it, and how it ends with
-# its line in statuses.txt. The program is built without its proof here, since the gate has proved it.
+# Runs the lines of examples/runs.txt with the program that `rt ci` or ./prove built, or with the one that is
+# named, and compares output, standard error and status with what stands beside the images. Two images are
+# made here: hello in a file of 16 MiB, the longest that is read, and in one that is a byte longer.
 set -u
 top=$(cd "$(dirname "${BASH_SOURCE[0]}")/.." && pwd) || exit 1
-cases=$(mktemp -d) || exit 1
-trap 'rm -rf "$cases" "$cases.log"' EXIT
-for image in "$top"/examples/*.elf; do
-    name=$(basename "$image" .elf)
-    cp "$image" "$cases/$name" && cp "$top/examples/$name.stdout" "$cases/$name.stdout" || exit 1
-done
-(cd "$top/crates/oscar" && rt try --cases "$cases") > "$cases.log" 2>&1
+program=${1:-$top/crates/oscar/out/oscar}
+[ -x "$program" ] || { echo "examples: $program is not there: rt ci or ./prove builds it"; exit 1; }
+work=$(mktemp -d) || exit 1
+trap 'rm -rf "$work"' EXIT
+cd "$top/examples" || exit 1
+cp hello.elf "$work/longest.elf" && truncate -s 16777216 "$work/longest.elf" || exit 1
+cp hello.elf "$work/too_long.elf" && truncate -s 16777217 "$work/too_long.elf" || exit 1
+
+# compare RUN IMAGE STATUS WORD..: prints what differs
+compare() {
+    local run=$1 image=$2.elf wanted=$3 status
+    shift 3
+    [ -e "$image" ] || image=$work/$image
+    timeout 60 "$program" "$@" < "$image" > "$work/out" 2> "$work/err"
+    status=$?
+    [ "$status" -eq "$wanted" ] || echo "status $status, and not $wanted"
+    cmp "$work/out" "$run.stdout" 2>&1
+    diff "$run.stderr" "$work/err" 2>&1
+}
+
 passed=0
 failed=0
-while read -r name status; do
-    if grep -q "^case=$name run=ended status=$status .*output=expected" "$cases.log"; then
+while read -r run image status words; do
+    [[ $run != "" && $run != "#" ]] || continue
+    read -r -a words <<< "$words"
+    differs=$(compare "$run" "$image" "$status" "${words[@]}")
+    if [ -z "$differs" ]; then
         passed=$((passed + 1))
     else
         failed=$((failed + 1))
-        grep "^case=$name " "$cases.log" || echo "case=$name was not run"
+        printf '%s: %s\n' "$run" "$differs"
     fi
-done < "$top/examples/statuses.txt"
-[ $((passed + failed)) -eq "$(ls "$cases"/*.stdout | wc -l)" ] || { echo "statuses.txt lacks an example"; failed=$((failed + 1)); }
-[ "$failed" -eq 0 ] || tail -n 20 "$cases.log"
+done < runs.txt
+for image in *.elf bugs/*.elf; do
+    grep -q " ${image%.elf} [0-9]" runs.txt && continue
+    echo "runs.txt lacks $image"
+    failed=$((failed + 1))
+done
+for file in *.stdout */*.stdout; do
+    grep -q "^${file%.stdout} " runs.txt && continue
+    echo "runs.txt lacks a run for $file"
+    failed=$((failed + 1))
+done
 echo "examples: $passed passed, $failed failed"
 [ "$failed" -eq 0 ]
