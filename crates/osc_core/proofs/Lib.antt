@@ -22,3 +22,4 @@ pub mod Images
 pub mod Booting
 pub mod Spread
 pub mod Opened
+pub mod Moving

@@ -4,3 +4,4 @@ pub mod Sound
 pub mod Ends
 pub mod Words
 pub mod Boot
+pub mod Parts

@@ -1,5 +1,6 @@
 -- The machine without its harts, as its owner sees it, and the state that it is with them.
 use Rattle.std.specs.Prelude.{ℕ, ◌%◌, ◌^◌, nat_le, Option, List}
+use Rattle.osc_word.specs.declared.settings.Config.{Config}
 use Rattle.osc_word.specs.declared.steps.Event.{Event}
 use Rattle.osc_word.specs.declared.steps.Label.{Label}
 use Rattle.osc_paging.specs.Boxes.{BoxState}
@@ -10,12 +11,14 @@ use Rattle.osc_machine.specs.Views.{label_in}
 use Rattle.osc_turns.specs.Seen.{kernel_in}
 use Rattle.osc_turns.specs.declared.place.Stepped.{Stepped}
 
--- what the harts share: the words and the gates of memory, and the boxes and the kernel that are at home
+-- what the harts share: the words and the gates of memory, the boxes and the kernel that are at home, and
+-- the configuration that the machine began with
 pub record Shared : Type 0 where
   pub words : List ℕ
   pub gates : List Gate
   pub boxes : List (Option BoxState)
   pub kernel : Option SeenKernel
+  pub config : Config
 
 abbrev pub state_of : Shared → List HartState → State
 state_of m harts = record {

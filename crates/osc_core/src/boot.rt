@@ -1,8 +1,7 @@
 //! How a machine begins.
 
-ghost use Rattle.std.specs.Prelude.{ℕ, ◌≡◌, ◌<◌, ◌≤◌, Some, None, IfErr, IfOk, map, replicate};
+ghost use Rattle.std.specs.Prelude.{ℕ, ◌≡◌, ◌<◌, ◌≤◌, Some, None, IfErr, IfOk, map};
 ghost use Rattle.std.specs.List.{range_with_len};
-ghost use Rattle.osc_paging.specs.Boxes.{new_box};
 ghost use Rattle.osc_calls.specs.Open.{image_pages, opening};
 ghost use Rattle.osc_image.specs.Frames.{needed_frames};
 ghost use Rattle.osc_word.specs.Limits.{first_fault};
@@ -10,13 +9,14 @@ ghost use Rattle.osc_open.specs.Laying.{pages_of};
 ghost use Rattle.osc_machine.specs.Start.{first_hart, first_user};
 ghost use Rattle.osc_core.specs.Boot.{Begins, IsOfFile, Refuses, start_at};
 
+use crate::boxes::Homes;
 use crate::laying::new_words;
 use crate::machine::Machine;
 use osc_elf::Image;
 use osc_hart::UserHart;
 use osc_kernel::KernelFault;
 use osc_sv39::PteBits;
-use osc_turns::{Hart, HartBox, Kernel};
+use osc_turns::{Hart, Kernel};
 use osc_word::{Config, ConfigFault, Frame, Page, Regs, Start};
 use std::alloc::{AllocError, Global};
 
@@ -94,17 +94,6 @@ fn new_harts(alloc: Global, config: &Config, start: &Start) -> Result<Vec<Hart>,
     Ok(harts)
 }
 
-/// The boxes of so many harts, at home.
-fn new_boxes(alloc: Global, count: u32) -> Result<Vec<Option<HartBox>>, AllocError>
-    ensures { IfOk result (λ boxes. boxes.items ≡ replicate count (Some new_box)) }
-{
-    let mut boxes = Vec::with_capacity(alloc, count as usize)?;
-    for _made in 0..count {
-        boxes.push(Some(HartBox::new(alloc)?))?;
-    }
-    Ok(boxes)
-}
-
 /// The pages of an image, by number with R, W and X, ascending.
 #[tactic(auto, using(crate::proofs::Pages::page_steps))]
 fn image_pages(alloc: Global, image: &Image) -> Result<Vec<(Page, PteBits)>, AllocError>
@@ -166,8 +155,9 @@ impl Machine {
         let machine = Machine {
             words,
             gates: vec![in alloc; 0; config.frames as usize]?,
-            boxes: new_boxes(alloc, config.harts)?,
+            boxes: Homes::new(alloc, config.harts)?,
             kernel: Some(kernel),
+            config: *config,
         };
         Ok(Booted { machine, harts })
     }

@@ -1,6 +1,7 @@
 //! Laws of the machine. Each function does nothing: what it says is proved of the definitions.
 
 ghost use Rattle.osc_core.specs.Ends.{EndsFit, StatusesStay, StepsFree};
+ghost use Rattle.osc_core.specs.Parts.{StartsHome};
 ghost use Rattle.osc_core.specs.Sound.{SoundReady, StepsKeep, RunsKeep, StartsSound};
 
 use osc_guest::places_ask;
@@ -24,6 +25,11 @@ pub fn starts_sound()
 {
     boxes_fit();
 }
+
+/// A machine at its start has its kernel, its boxes and its gates at home.
+pub fn starts_home()
+    ensures { StartsHome }
+{}
 
 /// Only the return of a call ends a process: a step that does anything else to the kernel changes no status.
 pub fn statuses_stay()

@@ -1,11 +1,12 @@
 //! Machines that begin, that don't, and that run step by step.
 
-ghost use Rattle.std.specs.Prelude.{IfOk};
+ghost use Rattle.std.specs.Prelude.{◌≤◌, IfOk, length};
+ghost use Rattle.osc_core.specs.Parts.{AreVersions};
 ghost use Rattle.osc_core.specs.Shared.{state_of};
 ghost use Rattle.osc_core.specs.Sound.{Sound};
 
-use crate::laws::starts_sound;
-use crate::{BootFault, Booted, Counts, Ending, Hart, Machine};
+use crate::laws::{starts_home, starts_sound};
+use crate::{BootFault, Booted, Counts, Ending, Hart, Machine, Parts};
 use osc_elf::read_image;
 use osc_word::{Config, ConfigFault, HeapKind};
 use std::alloc::{AllocError, Global};
@@ -76,6 +77,16 @@ fn boot(alloc: Global, file: &[u8], config: &Config) -> Result<Booted, Fail>
     let image = read_image(alloc, file)?;
     let booted = Machine::boot(alloc, &image, config)?;
     Ok(booted)
+}
+
+/// The parts of the machine of a file at its start.
+fn start_parts(alloc: Global, file: &[u8], config: &Config) -> Result<Parts, Fail>
+    ensures { IfOk result (λ parts. AreVersions parts.versions.items × (length parts.boxes.items ≤ parts.room)) }
+{
+    starts_home();
+    let image = read_image(alloc, file)?;
+    let booted = Machine::boot(alloc, &image, config)?;
+    Ok(booted.machine.into_parts())
 }
 
 /// Why a file's machine doesn't begin; None where it does.
@@ -238,5 +249,22 @@ fn runs_of_one_hart(rt: HostRuntime) -> Result<(), Fail> {
         );
         assert_eq!(rt; booted.machine.counts(&booted.harts), counts);
     }
+    Ok(())
+}
+
+/// A machine is taken apart, put together, and taken apart by its kernel.
+#[test]
+fn parts_of_a_start(rt: HostRuntime) -> Result<(), Fail> {
+    let file = image_file(rt.alloc(), &SEVEN, 12)?;
+    let config = Config { harts: 3, ..CONFIG };
+    let parts = start_parts(rt.alloc(), &file, &config)?;
+    assert_eq!(rt; parts.words.len(), 1024 * 512);
+    assert_eq!(rt; parts.versions.len(), 1024);
+    assert_eq!(rt; parts.boxes.len(), 3);
+    assert_eq!(rt; parts.config, config);
+    assert_eq!(rt; parts.kernel.processes(), 1);
+    let machine = Machine::of_parts(parts);
+    assert_eq!(rt; machine.ending(&[]), None);
+    assert!(rt; machine.kernel().is_some());
     Ok(())
 }

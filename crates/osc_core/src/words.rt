@@ -16,6 +16,7 @@ fn place_of(at: WordAt) -> usize
 }
 
 /// A word; 0 where there is none.
+#[inline(always)]
 pub fn load(words: &[u64], at: WordAt) -> u64
     ensures { result ≡ word_at words.now at.frame at.index }
 {
@@ -24,6 +25,7 @@ pub fn load(words: &[u64], at: WordAt) -> u64
 }
 
 /// Puts a word in place of another; nothing changes where there is none.
+#[inline(always)]
 pub fn store(words: &mut [u64], at: WordAt, value: u64)
     ensures { words.new ≡ put_word words.old at.frame at.index value }
 {

@@ -164,6 +164,7 @@ pub fn page_of(access: &MemoryAccess) -> u64
 }
 
 /// The word of a frame that holds the bytes of an access.
+#[inline(always)]
 pub fn word_place(access: &MemoryAccess, frame: u32) -> WordAt
     ensures { result ≡ asks.word_place access.now frame }
 {

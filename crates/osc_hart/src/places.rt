@@ -19,6 +19,7 @@ use osc_sv39::read_pte;
 use osc_word::{ANSWER_REGISTER, Call, Choice, Order, Request, Resume, WordAt};
 
 /// What an access asks for.
+#[inline(always)]
 fn access_ask(access: &MemoryAccess, frame: u32, stage: Stage) -> Ask
     requires { IsAccess access.now }
     ensures { result ≡ asks.access_ask access.now frame stage }
@@ -60,6 +61,7 @@ impl HartState {
 
     /// The next action.
     #[tactic(auto, unfolding(osc_guest::specs::Asks::ask))]
+    #[inline(always)]
     pub fn next_action(&self) -> Ask
         ensures { result ≡ asks.ask self.now.hart }
     {

@@ -97,6 +97,7 @@ impl HartState {
 
     /// The box as the hart leaves it.
     #[tactic(auto, unfolding(osc_guest::specs::Asks::ask))]
+    #[inline(always)]
     pub fn hand_back(&mut self) -> HartBox
         requires { is_some self.old.hart.held ≡ true }
         ensures given { result ≡ user.handed self.old.hart }

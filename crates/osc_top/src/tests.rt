@@ -4,6 +4,7 @@ mod atomics;
 mod code;
 mod faults;
 mod files;
+mod generated;
 mod heaps;
 mod outside;
 mod processes;

@@ -1,6 +1,6 @@
 //! What a hart asks for next.
 
-ghost use Rattle.std.specs.Prelude.{◌≡◌};
+ghost use Rattle.std.specs.Prelude.{◌≡◌, IfSome};
 ghost use Rattle.osc_machine.specs.Turns.{guest_ask, hart_ask, move_ask};
 ghost use Rattle.osc_turns.specs.Places.{WorksIn, EntryFor};
 ghost use Rattle.osc_turns.specs.Seen.{moves_in};
@@ -52,8 +52,21 @@ fn job_ask(kernel: &Option<Kernel>, progress: &Progress) -> HartAsk
 }
 
 impl Hart {
+    /// What the guest part does next; None while the hart is in a call.
+    #[tactic(auto, unfolding(osc_machine::specs::Turns::hart_ask))]
+    #[inline(always)]
+    pub fn guest_ask(&self) -> Option<Ask>
+        ensures { IfSome result (λ ask. hart_ask self.now ≡ guest_ask self.now.number ask) }
+    {
+        match self.place {
+            Place::Outside => Some(self.user.ask()),
+            _ => None,
+        }
+    }
+
     /// The next action.
     #[tactic(auto, unfolding(osc_machine::specs::Turns::hart_ask))]
+    #[inline(always)]
     pub fn ask(&self) -> HartAsk
         ensures { result ≡ hart_ask self.now }
     {

@@ -59,6 +59,7 @@ impl Hart {
     /// The box that the hart gives, as it leaves it, once for each giving. The hart then still asks for
     /// the giving.
     #[tactic(auto, unfolding(osc_machine::specs::Turns::hart_ask, osc_machine::specs::Turns::handed_box))]
+    #[inline(always)]
     pub fn hand_box(&mut self) -> HartBox
         requires asks { IsGiving (hart_ask self.old) }
         requires held { is_some (box_in_hand self.old) ≡ true }

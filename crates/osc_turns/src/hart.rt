@@ -89,6 +89,14 @@ impl Hart {
         })
     }
 
+    /// Its number among the harts.
+    #[inline(always)]
+    pub fn number(&self) -> u32
+        ensures { result ≡ self.now.number }
+    {
+        self.number
+    }
+
     /// The committed events, so far as 64 bits count them.
     pub fn retired(&self) -> u64
         ensures { result ≡ views.retired self.now }

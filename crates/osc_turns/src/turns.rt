@@ -66,6 +66,7 @@ impl Hart {
     }
 
     /// The guest part hears an answer.
+    #[inline(always)]
     fn tell_user(&mut self, told: Told) -> Stepped
         requires outside { self.old.place ≡ Outside }
         requires fits { Fits (guest.ask self.old.user) (answers.said told) }
@@ -230,6 +231,7 @@ impl Hart {
     }
 
     /// An action of the job under way is done; `word` is what it loaded, or 0.
+    #[inline(never)]
     fn work(&mut self, word: u64) -> Stepped
         requires { IsWorking self.old.place }
         ensures { made self.new result ≡ turned (turns.place_told self.old.place self.old.kernel self.old (turns.Word word)) }
@@ -287,6 +289,7 @@ impl Hart {
 
     /// A box was taken.
     #[tactic(auto, unfolding(osc_machine::specs::Turns::hart_ask, osc_machine::specs::Turns::hart_told))]
+    #[inline(always)]
     fn box_told(&mut self, hart_box: HartBox) -> Stepped
         requires fits { AnswerFits self.old.count (hart_ask self.old) (turns.Box hart_box) }
         requires within { AnswerWithin self.old (turns.Box hart_box) }
@@ -327,6 +330,7 @@ impl Hart {
 
     /// A word was loaded.
     #[tactic(auto, unfolding(osc_machine::specs::Turns::hart_ask, osc_machine::specs::Turns::hart_told))]
+    #[inline(always)]
     fn word_told(&mut self, word: u64) -> Stepped
         requires { AnswerFits self.old.count (hart_ask self.old) (turns.Word word) }
         ensures { made self.new result ≡ turned (hart_told self.old (turns.Word word)) }
@@ -406,6 +410,7 @@ impl Hart {
 
     /// The action is done.
     #[tactic(auto, unfolding(osc_machine::specs::Turns::hart_ask, osc_machine::specs::Turns::hart_told))]
+    #[inline(always)]
     fn done_told(&mut self) -> Stepped
         requires { AnswerFits self.old.count (hart_ask self.old) turns.Done }
         ensures { made self.new result ≡ turned (hart_told self.old turns.Done) }
@@ -427,6 +432,7 @@ impl Hart {
 
     /// The answer to the action that the hart asked for. It tells the event that commits with it, and
     /// what the step shows beside the objects that were let go.
+    #[inline(always)]
     pub fn told(&mut self, told: HartTold) -> Stepped
         requires fits { AnswerFits self.old.count (hart_ask self.old) (said told) }
         requires within { AnswerWithin self.old (said told) }

@@ -253,11 +253,18 @@ fn shared_with_a_thread() -> [u32; 19] {
     ]
 }
 
-/// The report of the thread, whichever instruction of it comes first after the free.
-fn check_seed(rt: &impl Abort, alloc: Global, line: &str) -> Result<(), Fail> {
+const DIGITS: [&str; 10] = ["0", "1", "2", "3", "4", "5", "6", "7", "8", "9"];
+
+/// The report of the thread, whichever instruction of it comes first after the free, under the seed of two
+/// digits.
+fn check_seed(rt: &impl Abort, alloc: Global, tens: &str, ones: &str) -> Result<(), Fail> {
     let code = shared_with_a_thread();
+    let mut line = String::new(alloc);
+    line.push_str("oscar --seed ")?;
+    line.push_str(tens)?;
+    line.push_str(ones)?;
     let row = Row {
-        line,
+        line: &line,
         ..faults(
             &code,
             "fault: process 0 hart 1 cause 13 at 0x1000000010: object 0 offset 0 freed by call 2\nrun: picks ",
@@ -266,10 +273,16 @@ fn check_seed(rt: &impl Abort, alloc: Global, line: &str) -> Result<(), Fail> {
     check_rows(rt, alloc, &[row])
 }
 
+/// Every seed from 0 to 63.
 #[test]
 fn thread_outlives_an_object(rt: HostRuntime) -> Result<(), Fail> {
-    check_seed(&rt, rt.alloc(), "oscar --seed 0")?;
-    check_seed(&rt, rt.alloc(), "oscar --seed 1")?;
-    check_seed(&rt, rt.alloc(), "oscar --seed 2")?;
-    check_seed(&rt, rt.alloc(), "oscar --seed 63")
+    for tens in &DIGITS[..6] {
+        for ones in &DIGITS {
+            check_seed(&rt, rt.alloc(), tens, ones)?;
+        }
+    }
+    for ones in &DIGITS[..4] {
+        check_seed(&rt, rt.alloc(), "6", ones)?;
+    }
+    Ok(())
 }

@@ -28,7 +28,7 @@ returns-clause-begins c =
     record {
       valid = (let v : first_fault config ≡ None = search rules in v);
       enough = c.in_ok-kernel.ensures.opened.0;
-      starts = starts image config k c.in_ok-words.words.items c.in_ok-vec.field-0.items c.in_ok-new_boxes.field-0.items c.in_ok-harts.harts.items at e c.in_ok-words.ensures.words
-          (let g : c.in_ok-vec.field-0.items ≡ replicate config.frames 0 = search rules in g) c.in_ok-new_boxes.ensures (c.unwrap_or-root.ensures ∙ ap (λ o. unwrap_or o 0) c.root.ensures ∙ root_is image config k e)
+      starts = starts image config k c.in_ok-words.words.items c.in_ok-vec.field-0.items c.in_ok-new.field-0 c.in_ok-harts.harts.items at e c.in_ok-words.ensures.words
+          (let g : c.in_ok-vec.field-0.items ≡ replicate config.frames 0 = search rules in g) c.in_ok-new.ensures (c.unwrap_or-root.ensures ∙ ap (λ o. unwrap_or o 0) c.root.ensures ∙ root_is image config k e)
           (c.in_ok-harts.ensures ∙ ap (λ s. map (first_hart config s) (range_with_len 0 config.harts)) (c.first_start.ensures ∙ ap (start_at config at) c.entry.ensures));
     }

@@ -2,7 +2,7 @@
 use Rattle.std.proofs.Common.{option_map, sym, ◌∙◌}
 use Rattle.osc_turns.specs.Answers.{said}
 use Rattle.osc_core.proofs.Acts.{gave_box, gave_kernel, took_gate}
-use Rattle.osc_core.proofs.machine.Machine.act.Goals as goal
+use Rattle.osc_core.proofs.machine.Machine.act_for_call.Goals as goal
 
 pub returns-in-GiveBox-clause-done : goal.returns-in-GiveBox-clause-done
 returns-in-GiveBox-clause-done c =
