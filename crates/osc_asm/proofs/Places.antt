@@ -1,5 +1,5 @@
 -- What is left of the code, of its uses of labels and of fields, as the loops go on.
-use Rattle.std.proofs.Common.{ℕ, suc, ◌≡◌, ◌+◌, ◌<◌, ◌≤◌, refl, sym, ◌∙◌, ap, subst, Bool, true, false, cond, Option, Some, None, List, [], ◌++◌, length, get_or, drop, add-one, append_assoc}
+use Rattle.std.proofs.Common.{ℕ, suc, ◌≡◌, ◌+◌, ◌<◌, ◌≤◌, refl, sym, ◌∙◌, ap, subst, Bool, true, false, cond, Option, Some, None, List, [], ◌++◌, length, get_or, drop, add-one, append_assoc, arith}
 use Rattle.std.specs.List.{find}
 use Rattle.std.proofs.Math.Seq.{drop-cons}
 use Rattle.std.proofs.Math.ListN.{drop_of_length-le}
@@ -7,6 +7,7 @@ use Rattle.std.proofs.lemmas.List.{append-nil}
 use Rattle.byteorder.specs.Endian.{little_bytes}
 use Rattle.osc_rv.specs.Instr.{word_of}
 use Rattle.osc_asm.specs.declared.item.Item.{Item}
+use Rattle.osc_asm.specs.declared.item.Item.TheVariants.{Plain, Branch, Jump, LabelHigh, LabelLow, BytesHigh, BytesLow}
 use Rattle.osc_asm.specs.declared.item.LabelUse.{LabelUse}
 use Rattle.osc_asm.specs.declared.header.ElfField.{ElfField}
 use Rattle.osc_asm.specs.Program.{Program}
@@ -71,6 +72,16 @@ hit_of p i items code item used target same h is some passes =
 pub uses_from-end : (i : ℕ) (items : List Item) → length items ≤ i → uses_from i (drop i items) ≡ []
 unfolding uses_from
 uses_from-end i items h = rw (drop_of_length-le items h) refl
+
+-- a use has the index of its instruction
+pub index-use_of : (i : ℕ) (item : Item) (used : LabelUse) → Some used ≡ use_of i item → used.index ≡ i
+index-use_of i (Plain instr) used is = grind arith
+index-use_of i (Branch kind rs1 rs2 to) used is = grind arith
+index-use_of i (Jump rd to) used is = grind arith
+index-use_of i (LabelHigh rd to) used is = grind arith
+index-use_of i (LabelLow rd to) used is = grind arith
+index-use_of i (BytesHigh rd offset) used is = grind arith
+index-use_of i (BytesLow rd offset) used is = grind arith
 
 pub ruleset uses_steps = (uses_from-end)
 

@@ -85,12 +85,18 @@ abbrev pub is_far : Program → LabelUse → Bool
 is_far program used =
     option_map_or (λ reach. not (is_near reach (address used.index) (label_address program used.label))) used.reach false
 
--- the label of the first use that is not bound, and of the first whose offset its format cannot hold
+-- the first use whose label is not bound, and the first whose offset its format cannot hold
+abbrev pub unbound_use : Program → Option LabelUse
+unbound_use program = find (is_unbound program) (uses program)
+
+abbrev pub far_use : Program → Option LabelUse
+far_use program = find (is_far program) (uses program)
+
 abbrev pub unbound_label : Program → Option ℕ
-unbound_label program = option_map (λ used. used.label) (find (is_unbound program) (uses program))
+unbound_label program = option_map (λ used. used.label) (unbound_use program)
 
 abbrev pub far_label : Program → Option ℕ
-far_label program = option_map (λ used. used.label) (find (is_far program) (uses program))
+far_label program = option_map (λ used. used.label) (far_use program)
 
 -- every label that is bound stands at one of so many instructions, or after them
 abbrev pub BoundInside : List (Option ℕ) → ℕ → Type 0

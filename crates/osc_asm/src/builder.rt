@@ -1,6 +1,6 @@
 //! The builder: what was put in, where it stands, and the file of it.
 
-ghost use Rattle.std.specs.Prelude.{◌≡◌, ◌+◌, ◌*◌, ◌<◌, ◌≤◌, ◌^◌, ◌++◌, ◌∷◌, [], length, is_ok, if◌then◌else◌, slice_get, None, Some, MatchResult, OnOk, IfOk, IsTrue};
+ghost use Rattle.std.specs.Prelude.{◌≡◌, ◌+◌, ◌*◌, ◌<◌, ◌≤◌, ◌^◌, ◌++◌, ◌∷◌, [], length, is_ok, if◌then◌else◌, slice_get, None, Some, MatchResult, OnOk, IfOk, IfSome, IsTrue};
 ghost use Rattle.osc_asm.specs.Program as program;
 ghost use Rattle.osc_asm.specs.Numbers as numbers;
 ghost use Rattle.osc_asm.specs.Layout as layout;
@@ -176,7 +176,7 @@ impl Builder {
     }
 
     /// The index of the instruction at which a label stands, None where it is not bound.
-    fn place_of(&self, label: LabelNo) -> Option<usize>
+    pub fn place_of(&self, label: LabelNo) -> Option<usize>
         ensures { result ≡ program.place_of self.now label }
     {
         self.labels.get(label as usize).copied().flatten()
@@ -233,15 +233,16 @@ impl Builder {
         }
     }
 
-    /// The label of the first use that is not bound.
+    /// The first use of a label that is not bound, None where each label that is used is bound.
     #[tactic(auto, using(crate::proofs::Places::uses_steps))]
-    fn unbound_label(&self) -> Option<LabelNo>
-        ensures { result ≡ layout.unbound_label self.now }
+    pub fn unbound_use(&self) -> Option<LabelUse>
+        ensures first { result ≡ layout.unbound_use self.now }
+        ensures inside { IfSome result (λ used. used.index < length self.now.code) }
     {
         for (index, item) in self.code.iter().enumerate() {
             if let Some(used) = item.label_use(index) {
                 if self.place_of(used.label).is_none() {
-                    return Some(used.label);
+                    return Some(used);
                 }
             }
         }
@@ -257,15 +258,16 @@ impl Builder {
         }
     }
 
-    /// The label of the first use whose offset its format cannot hold.
+    /// The first branch or jal whose offset its format cannot hold, None where there is none.
     #[tactic(auto, using(crate::proofs::Places::uses_steps))]
-    fn far_label(&self) -> Option<LabelNo>
-        ensures { result ≡ layout.far_label self.now }
+    pub fn far_use(&self) -> Option<LabelUse>
+        ensures first { result ≡ layout.far_use self.now }
+        ensures inside { IfSome result (λ used. used.index < length self.now.code) }
     {
         for (index, item) in self.code.iter().enumerate() {
             if let Some(used) = item.label_use(index) {
                 if self.is_far(&used) {
-                    return Some(used.label);
+                    return Some(used);
                 }
             }
         }
@@ -327,11 +329,11 @@ impl Builder {
         ensures short { OnOk result (length (spec.file self.now) ≤ 16777216) }
         ensures inside { OnOk result (layout.BoundInside self.now.labels (length self.now.code)) }
     {
-        if let Some(label) = self.unbound_label() {
-            return Err(AsmFault::Label(label));
+        if let Some(used) = self.unbound_use() {
+            return Err(AsmFault::Label(used.label));
         }
-        if let Some(label) = self.far_label() {
-            return Err(AsmFault::Far(label));
+        if let Some(used) = self.far_use() {
+            return Err(AsmFault::Far(used.label));
         }
         if self.file_size() > LONGEST_FILE {
             return Err(AsmFault::TooLong);

@@ -12,7 +12,7 @@ mod item;
 mod numbers;
 
 pub use builder::Builder;
-pub use item::Item;
+pub use item::{Item, LabelUse};
 use std::alloc::AllocError;
 use thiserror::Error;
 

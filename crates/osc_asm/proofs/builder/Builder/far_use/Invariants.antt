@@ -2,7 +2,7 @@
 use Rattle.std.proofs.Common.{◌≡◌, drop}
 use Rattle.std.specs.List.{find}
 use Rattle.osc_asm.specs.Layout.{uses_from, is_far}
-use Rattle.osc_asm.proofs.builder.Builder.far_label.Given as goal
+use Rattle.osc_asm.proofs.builder.Builder.far_use.Given as goal
 
 abbrev pub invariant-loop-index : goal.invariant-loop-index
 invariant-loop-index l =

@@ -1,0 +1,6 @@
+pub mod Cutting
+pub mod Pairs
+pub mod Named
+pub mod Whole
+pub mod Fits
+pub mod Faults

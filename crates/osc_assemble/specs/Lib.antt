@@ -1,0 +1,3 @@
+pub mod Lines
+pub mod Put
+pub mod Answer
