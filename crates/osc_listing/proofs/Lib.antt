@@ -1,0 +1,3 @@
+pub mod Hexadecimal
+pub mod Words
+pub mod Fronts
