@@ -1,5 +1,6 @@
 -- Finding by a test, and by a place.
-use Rattle.std.proofs.Common.{◌≡◌, ℕ, zero, suc, ◌+◌, ◌<◌, ◌≤◌, Bool, true, false, List, [], ◌∷◌, length, get_or, Option, Some, refl, ap, sym, ◌∙◌, arith, slice_get, position, option_and_then, set, map, take, drop, ◌++◌}
+use Rattle.std.proofs.Common.{◌≡◌, ℕ, zero, suc, ◌+◌, ◌<◌, ◌≤◌, Bool, true, false, List, [], ◌∷◌, length, get_or, Option, Some, refl, ap, sym, ◌∙◌, arith, slice_get, position, option_and_then, set, map, take, drop, ◌++◌, append_assoc}
+use Rattle.std.specs.List.{range_with_len}
 use Rattle.std.specs.Prelude.{find}
 use Rattle.std.proofs.lemmas.Bool.Decides.{nat_tests}
 use Rattle.std.proofs.lemmas.Option.{slice_get-get_or}
@@ -59,3 +60,17 @@ pub mapped-at : {X : Type 0} (change : X → X) (xs : List X) (i : ℕ) (x : X) 
 mapped-at change [] i x at = absurd (cc)
 mapped-at change (y ∷ xs) zero x at = let same : y ≡ x = cc in rw same refl
 mapped-at change (y ∷ xs) (suc i) x at = mapped-at change xs i x at
+
+range-next : (a n : ℕ) → range_with_len a (n + 1) ≡ range_with_len a n ++ (a + n) ∷ []
+range-next a zero = let here : a + 0 ≡ a = omega arith in rw here refl
+range-next a (suc n) =
+    let more : suc n + 1 ≡ suc (n + 1) = omega arith in
+    let last : a + suc n ≡ a + 1 + n = omega arith in
+    rw (more, last) (ap (λ xs. a ∷ xs) (range-next (a + 1) n))
+
+-- one number more
+pub numbers-next : (old so now : List ℕ) (first n : ℕ) → so ≡ old ++ range_with_len first n → now ≡ so ++ (first + n) ∷ []
+    → now ≡ old ++ range_with_len first (n + 1)
+numbers-next old so now first n are more =
+    more ∙ ap (λ xs. xs ++ (first + n) ∷ []) are ∙ append_assoc old (range_with_len first n) ((first + n) ∷ [])
+    ∙ ap (λ xs. old ++ xs) (sym (range-next first n))

@@ -1,6 +1,7 @@
 -- A place of numbered memory and a call of the heap, as the code has them.
 use Rattle.osc_world.specs.Accesses.{NumberedPlace}
-use Rattle.std.specs.Prelude.{ℕ, Option}
+use Rattle.std.specs.Prelude.{ℕ, ◌++◌, Option}
+use Rattle.std.specs.List.{range_with_len}
 use Rattle.osc_world.specs.World.{Memory, ObjectDeed, Makes, Kills, Replaces}
 use Rattle.osc_world.specs.States.{Process}
 use Rattle.osc_world.specs.Calls.{objects_after}
@@ -23,3 +24,7 @@ with_heap deed process = record process { memory = record (process.memory) { obj
 -- a process that ended so
 abbrev pub with_status : Option ℕ → Process Memory → Process Memory
 with_status status process = record process { status = status }
+
+-- a process that holds so many shared pages more, from this number on
+abbrev pub holding : ℕ → ℕ → Process Memory → Process Memory
+holding first count process = record process { shared = process.shared ++ range_with_len first count }

@@ -3,7 +3,9 @@
 #![tactic(auto)]
 
 mod memory;
+mod pages;
 mod process;
 
-pub use memory::{HeapDeed, Memory, Numbered, Page, lets};
+pub use memory::{HeapDeed, Memory, Numbered};
+pub use pages::{Page, Pages, lets};
 pub use process::Process;

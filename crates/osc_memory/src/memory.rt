@@ -1,7 +1,6 @@
 //! The memory of a process: its pages of image and stack, and its objects.
 
-ghost use Rattle.std.specs.Prelude.{◌≡◌, ◌≤◌, ◌<◌, [], IfSome, IfOk, ◌==◌, slice_get, position, map, unwrap_or, take, drop, length};
-ghost use Rattle.std.specs.Option.{option_and_then};
+ghost use Rattle.std.specs.Prelude.{◌≡◌, ◌≤◌, [], IfSome, IfOk, slice_get, unwrap_or, take, drop};
 ghost use Rattle.osc_world.specs.States.{changed_at};
 ghost use Rattle.osc_world.specs.Values as values;
 ghost use Rattle.osc_world.specs.World as world;
@@ -9,77 +8,12 @@ ghost use Rattle.osc_world.specs.Accesses as accesses;
 ghost use Rattle.osc_world.specs.Calls as calls;
 ghost use Rattle.osc_values.specs.Stored.{FitsIn};
 
-use bitflags::Flags;
-use osc_sv39::{Access, PteBits};
+use crate::pages::Pages;
+use osc_sv39::PteBits;
 use osc_values::{Object, Row, value_in};
 use osc_world::{Area, Byte, Place, Value};
 use std::alloc::{AllocError, Global};
 use std::marker::Model;
-
-/// A page of image or stack: its address divided by 4096, what it allows, and its bytes.
-#[derive(Drop)]
-pub struct Page {
-    number: u32,
-    bits: PteBits,
-    row: Row,
-}
-
-impl Model for Page {
-    ghost use Rattle.osc_world.specs.World.{Page};
-
-    ghost Value = { Page };
-
-    ghost view = { λ p. record { number = p.number; bits = p.bits; bytes = p.row } };
-}
-
-/// Whether permissions let an access pass.
-#[tactic(auto, using(osc_sv39::proofs::FlagTests::flag_tests))]
-pub fn lets(bits: PteBits, access: Access) -> bool
-    ensures { result ≡ accesses.lets access bits }
-{
-    let needed = match access {
-        Access::Fetch => PteBits::X,
-        Access::Load => PteBits::R,
-        Access::Store => PteBits::W,
-    };
-    bits.contains(needed)
-}
-
-impl Page {
-    /// A page with these bytes.
-    pub fn new(number: u32, bits: PteBits, row: Row) -> Page
-        ensures { result ≡ record { number = number; bits = bits; bytes = row } }
-    {
-        Page { number, bits, row }
-    }
-
-    /// The same page once more. An `Err` is want of memory.
-    fn copied(&self, alloc: Global) -> Result<Page, AllocError>
-        ensures { IfOk result (λ page. page ≡ self.now) }
-    {
-        Ok(Page {
-            number: self.number,
-            bits: self.bits,
-            row: self.row.copied(alloc)?,
-        })
-    }
-
-    /// Whether this is the page of a number.
-    fn is_numbered(&self, number: u64) -> bool
-        ensures { result ≡ (self.now.number == number) }
-    {
-        u64::from(self.number) == number
-    }
-
-    /// Stores a value where this is the page of a number; see `Row::put`.
-    fn put_if(&mut self, number: u32, offset: u64, width: u8, value: Value)
-        ensures { self.new ≡ accesses.page_overlaid number offset (values.spread width value) self.old }
-    {
-        if self.number == number {
-            self.row.put(offset, width, value);
-        }
-    }
-}
 
 /// Where an access by a number begins, and what is allowed there.
 #[derive(Clone, Copy)]
@@ -102,7 +36,7 @@ pub enum HeapDeed {
 /// The memory of one process.
 #[derive(Drop)]
 pub struct Memory {
-    pages: Vec<Page>,
+    pages: Pages,
     objects: Vec<Object>,
 }
 
@@ -111,32 +45,7 @@ impl Model for Memory {
 
     ghost Value = { Memory };
 
-    ghost view = { λ m. record { pages = m.pages.items; objects = m.objects.items } };
-}
-
-/// The place of the first page of a number; None exactly where there is none.
-fn first_of(pages: &[Page], number: u64) -> Option<usize>
-    ensures inside { IfSome result (λ i. i < length pages.now) }
-    ensures first { result ≡ position (λ (page : world.Page). page.number == number) pages.now }
-{
-    pages.iter().position(|page| page.is_numbered(number))
-}
-
-/// The place of the page of a number, where `memory_page` finds it; None exactly where there is none.
-fn place_of(pages: &[Page], number: u64) -> Option<usize>
-    ensures inside { IfSome result (λ i. i < length pages.now) }
-    ensures page { option_and_then (slice_get pages.now) result ≡ accesses.memory_page pages.now number }
-{
-    first_of(pages, number)
-}
-
-/// Stores a value in the pages of a number.
-fn put_in_pages(pages: &mut [Page], number: u32, offset: u64, width: u8, value: Value)
-    ensures { pages.new ≡ map (accesses.page_overlaid number offset (values.spread width value)) pages.old }
-{
-    for page in pages.iter_mut() {
-        page.put_if(number, offset, width, value);
-    }
+    ghost view = { λ m. record { pages = m.pages; objects = m.objects.items } };
 }
 
 /// Stores a value in an object, if there is one of this number.
@@ -177,17 +86,6 @@ fn resized_of(
     }
 }
 
-/// The pages once more. An `Err` is want of memory.
-fn pages_copied(alloc: Global, pages: &[Page]) -> Result<Vec<Page>, AllocError>
-    ensures { IfOk result (λ copy. copy.items ≡ pages.now) }
-{
-    let mut copy = Vec::with_capacity(alloc, pages.len())?;
-    for page in pages {
-        copy.push(page.copied(alloc)?)?;
-    }
-    Ok(copy)
-}
-
 /// The objects once more. An `Err` is want of memory.
 fn objects_copied(alloc: Global, objects: &[Object]) -> Result<Vec<Object>, AllocError>
     ensures { IfOk result (λ copy. copy.items ≡ objects.now) }
@@ -210,8 +108,8 @@ impl Memory {
     ghost use Rattle.osc_memory.specs.Places.{numbered_shown, heap_shown};
 
     /// These pages, and no objects.
-    pub fn new(alloc: Global, pages: Vec<Page>) -> Memory
-        ensures { result ≡ record { pages = pages.items; objects = [] } }
+    pub fn new(alloc: Global, pages: Pages) -> Memory
+        ensures { result ≡ record { pages = pages; objects = [] } }
     {
         Memory {
             pages,
@@ -224,7 +122,7 @@ impl Memory {
         ensures { IfOk result (λ copy. copy ≡ self.now) }
     {
         Ok(Memory {
-            pages: pages_copied(alloc, &self.pages)?,
+            pages: self.pages.copied(alloc)?,
             objects: objects_copied(alloc, &self.objects)?,
         })
     }
@@ -256,8 +154,7 @@ impl Memory {
     pub fn numbered(&self, address: u64) -> Option<Numbered>
         ensures { option_map numbered_shown result ≡ accesses.numbered_in (accesses.memory_page self.now.pages (address / 4096)) None (address % 4096) }
     {
-        let place = place_of(&self.pages, address / 4096)?;
-        let page = &self.pages[place];
+        let page = self.pages.page(address / 4096)?;
         Some(Numbered {
             place: Place {
                 area: Area::Page(page.number),
@@ -273,11 +170,8 @@ impl Memory {
         ensures fits { IfSome result (FitsIn width) }
         ensures value { result ≡ values.gather (take width (drop offset (accesses.page_bytes (accesses.memory_page self.now.pages number)))) }
     {
-        match place_of(&self.pages, u64::from(number)) {
-            Some(place) => {
-                let page = &self.pages[place];
-                page.row.value_at(offset, width)
-            }
+        match self.pages.page(u64::from(number)) {
+            Some(page) => page.row.value_at(offset, width),
             None => value_in(&[], offset, width),
         }
     }
@@ -300,8 +194,7 @@ impl Memory {
     fn byte_in_page(&self, number: u32, offset: u64) -> Option<Byte>
         ensures { result ≡ slice_get (accesses.page_bytes (accesses.memory_page self.now.pages number)) offset }
     {
-        let place = place_of(&self.pages, u64::from(number))?;
-        let page = &self.pages[place];
+        let page = self.pages.page(u64::from(number))?;
         page.row.byte_at(offset)
     }
 
@@ -349,7 +242,7 @@ impl Memory {
             Area::Object(object) => {
                 put_in_objects(&mut self.objects, object, at.offset, width, value);
             }
-            Area::Page(page) => put_in_pages(&mut self.pages, page, at.offset, width, value),
+            Area::Page(page) => self.pages.put(page, at.offset, width, value),
             Area::Shared(_) => {}
         }
     }

@@ -1,10 +1,12 @@
 //! A process: its memory, its shared pages, its parent and how it ended.
 
-ghost use Rattle.std.specs.Prelude.{◌≡◌, ◌≤◌, slice_get};
+ghost use Rattle.std.specs.Prelude.{◌≡◌, ◌≤◌, ◌+◌, ◌^◌, ◌++◌, OnOk, slice_get};
+ghost use Rattle.std.specs.List.{range_with_len};
 ghost use Rattle.osc_world.specs.Accesses as accesses;
 ghost use Rattle.osc_world.specs.States as states;
 
-use crate::memory::{HeapDeed, Memory, Numbered, lets};
+use crate::memory::{HeapDeed, Memory, Numbered};
+use crate::pages::lets;
 use osc_sv39::{Access, PteBits};
 use osc_values::{Object, Row};
 use osc_word::Pid;
@@ -50,14 +52,27 @@ fn shared_page_at(shared: &[u32], address: u64) -> Option<u32>
     }
 }
 
+/// So many numbers more, from `first` on. An `Err` is want of memory.
+fn add_numbers(numbers: &mut Vec<u32>, first: u32, count: u32) -> Result<(), AllocError>
+    requires { first + count ≤ 2 ^ 32 }
+    ensures { OnOk result (numbers.new.items ≡ numbers.old.items ++ range_with_len first count) }
+{
+    for number in 0..count {
+        numbers.push(first + number)?;
+    }
+    Ok(())
+}
+
 impl Process {
-    ghost use Rattle.std.specs.Prelude.{◌≡◌, ◌≤◌, [], None, Some, IfOk, OnOk, IfSome, slice_get, take, drop};
+    ghost use Rattle.std.specs.Prelude.{◌≡◌, ◌≤◌, ◌+◌, ◌^◌, ◌++◌, [], None, Some, IfOk, OnOk, IfSome, slice_get, take, drop};
     ghost use Rattle.std.specs.Option.{option_map};
+    ghost use Rattle.std.specs.List.{range_with_len};
+    ghost use Rattle.osc_world.specs.Deeds as deeds;
     ghost use Rattle.osc_world.specs.Values as values;
     ghost use Rattle.osc_world.specs.World as world;
     ghost use Rattle.osc_world.specs.Accesses as accesses;
     ghost use Rattle.osc_values.specs.Stored.{FitsIn};
-    ghost use Rattle.osc_memory.specs.Places.{numbered_shown, heap_shown, with_heap, with_status};
+    ghost use Rattle.osc_memory.specs.Places.{numbered_shown, heap_shown, with_heap, with_status, holding};
 
     /// A process with this memory, without shared pages.
     pub fn new(alloc: Global, memory: Memory) -> Process
@@ -69,6 +84,34 @@ impl Process {
             parent: None,
             status: None,
         }
+    }
+
+    /// A child of this process: a copy of its memory, and the same shared pages. An `Err` is want of memory.
+    pub fn child(&self, alloc: Global, parent: Pid) -> Result<Process, AllocError>
+        ensures { IfOk result (λ child. child ≡ record { memory = self.now.memory; shared = self.now.shared; parent = Some parent; status = None }) }
+    {
+        Ok(Process {
+            memory: self.memory.copied(alloc)?,
+            shared: Vec::from_slice(alloc, &self.shared)?,
+            parent: Some(parent),
+            status: None,
+        })
+    }
+
+    /// Holds so many shared pages more, which have the numbers from `first` on. An `Err` is want of memory.
+    pub fn hold(&mut self, first: u32, count: u32) -> Result<(), AllocError>
+        requires { first + count ≤ 2 ^ 32 }
+        ensures { OnOk result (self.new ≡ holding first count self.old) }
+    {
+        add_numbers(&mut self.shared, first, count)
+    }
+
+    /// The address of its next shared page.
+    pub fn shared_next(&self) -> u64
+        ensures { result ≡ deeds.shared_next self.now }
+    {
+        let page = FIRST_SHARED_PAGE + self.shared.len() as u64;
+        page.wrapping_mul(4096)
     }
 
     /// The objects, by their numbers.

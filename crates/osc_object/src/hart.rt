@@ -1,15 +1,20 @@
 //! A hart: the thread that it runs, with its registers.
 
-ghost use Rattle.std.specs.Prelude.{◌≡◌};
+ghost use Rattle.std.specs.Prelude.{◌≡◌, IfOk, replicate};
+ghost use Rattle.osc_world.specs.declared.Value.TheVariants.{Num};
 ghost use Rattle.osc_world.specs.States as states;
 ghost use Rattle.osc_world.specs.Accesses as accesses;
 
 use crate::conditional::is_same_area;
 use crate::steps::next;
+use osc_word::address_map::STACK_END;
 use osc_word::{ANSWER_REGISTER, Pid, ThreadNo};
 use osc_world::{Place, Reservation, Value};
-use std::alloc::Global;
+use std::alloc::{AllocError, Global};
 use std::marker::Model;
+
+/// The register of the stack's end.
+const STACK_REGISTER: u8 = 2;
 
 /// A hart. An idle one has no process and no registers.
 #[derive(Drop)]
@@ -40,8 +45,16 @@ fn set(regs: &mut [Value], number: u8, value: Value)
     }
 }
 
+/// All registers, which hold 0. An `Err` is want of memory.
+fn zeros(alloc: Global) -> Result<Vec<Value>, AllocError>
+    ensures { IfOk result (λ regs. regs.items ≡ replicate 32 (Num 0)) }
+{
+    vec![in alloc; Value::Num(0); 32]
+}
+
 impl Hart {
-    ghost use Rattle.std.specs.Prelude.{◌≡◌, [], None};
+    ghost use Rattle.std.specs.Prelude.{◌≡◌, [], None, Some, IfOk, replicate, slice_set};
+    ghost use Rattle.osc_word.specs.Environment.{answer_register};
     ghost use Rattle.osc_world.specs.States as states;
     ghost use Rattle.osc_world.specs.Accesses as accesses;
     ghost use Rattle.osc_world.specs.Deeds as deeds;
@@ -59,6 +72,67 @@ impl Hart {
             pc: 0,
             reservation: None,
         }
+    }
+
+    /// The first thread of process 0: x2 is the end of the stack, and every other register is 0. An `Err` is want
+    /// of memory.
+    pub fn first(alloc: Global, entry: u64) -> Result<Hart, AllocError>
+        ensures { IfOk result (λ hart. hart ≡ states.boot_hart Num entry) }
+    {
+        let mut regs = zeros(alloc)?;
+        set(&mut regs, STACK_REGISTER, Value::Num(STACK_END));
+        Ok(Hart {
+            process: Some(0),
+            thread: None,
+            regs,
+            pc: entry,
+            reservation: None,
+        })
+    }
+
+    /// A spawned thread: x2 is `sp`, a0 is the argument, and every other register is 0. An `Err` is want of
+    /// memory.
+    pub fn begun(
+        alloc: Global,
+        pid: Pid,
+        thread: ThreadNo,
+        pc: u64,
+        sp: Value,
+        arg: Value,
+    ) -> Result<Hart, AllocError>
+        ensures { IfOk result (λ hart. hart ≡ record {
+          process = Some pid;
+          thread = Some thread;
+          regs = slice_set (slice_set (replicate 32 (Num 0)) 2 sp) answer_register arg;
+          pc = pc;
+          reservation = None;
+        }) }
+    {
+        let mut regs = zeros(alloc)?;
+        set(&mut regs, STACK_REGISTER, sp);
+        set(&mut regs, ANSWER_REGISTER, arg);
+        Ok(Hart {
+            process: Some(pid),
+            thread: Some(thread),
+            regs,
+            pc,
+            reservation: None,
+        })
+    }
+
+    /// The first thread of a child: this hart in process `pid`, with answer 0. An `Err` is want of memory.
+    pub fn child(&self, alloc: Global, pid: Pid) -> Result<Hart, AllocError>
+        ensures { IfOk result (λ child. child ≡ changes.child_on pid self.now) }
+    {
+        let mut child = Hart {
+            process: Some(pid),
+            thread: None,
+            regs: Vec::from_slice(alloc, &self.regs)?,
+            pc: self.pc,
+            reservation: None,
+        };
+        child.answer(Value::Num(0));
+        Ok(child)
     }
 
     /// The process of its thread; None exactly where it is idle.

@@ -4,10 +4,12 @@
 
 mod accesses;
 mod apply;
+mod beginnings;
 mod calls;
 mod changes;
 mod conditional;
 mod decisions;
+mod deeds;
 mod events;
 mod hart;
 mod instructions;

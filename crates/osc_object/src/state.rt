@@ -23,6 +23,18 @@ impl Model for Thread {
     ghost view = { λ t. record { spawner = t.spawner; value = t.value } };
 }
 
+impl Thread {
+    ghost use Rattle.std.specs.Prelude.{◌≡◌};
+    ghost use Rattle.osc_object.specs.Changes as changes;
+
+    /// It leaves this value.
+    pub fn leave(&mut self, value: Value)
+        ensures { self.new ≡ changes.leaving value self.old }
+    {
+        self.value = Some(value);
+    }
+}
+
 /// The state of a world.
 #[derive(Drop)]
 pub struct State {

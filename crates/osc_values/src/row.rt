@@ -1,6 +1,7 @@
 //! A row of bytes: an object, a page, or a page of a shared region.
 
-ghost use Rattle.std.specs.Prelude.{◌≡◌, ◌≤◌, IfOk, IfSome, length, take, drop, slice_get};
+ghost use Rattle.std.specs.Prelude.{◌≡◌, ◌≤◌, IfOk, IfSome, length, take, drop, slice_get, map};
+ghost use Rattle.osc_world.specs.declared.Byte.TheVariants.{Number};
 ghost use Rattle.osc_world.specs.Values as values;
 ghost use Rattle.osc_world.specs.Accesses as accesses;
 ghost use Rattle.osc_world.specs.Calls as calls;
@@ -27,7 +28,26 @@ impl Model for Row {
     ghost view = { λ r. r.bytes.items };
 }
 
+/// Numbers as bytes. An `Err` is want of memory.
+fn as_bytes(alloc: Global, numbers: &[u8]) -> Result<Vec<Byte>, AllocError>
+    ensures { IfOk result (λ bytes. bytes.items ≡ map Number numbers.now) }
+{
+    let mut bytes = Vec::with_capacity(alloc, numbers.len())?;
+    for number in numbers {
+        bytes.push(Byte::Number(*number))?;
+    }
+    Ok(bytes)
+}
+
 impl Row {
+    /// These numbers. An `Err` is want of memory.
+    pub fn of_numbers(alloc: Global, numbers: &[u8]) -> Result<Row, AllocError>
+        ensures { IfOk result (λ row. row ≡ map Number numbers.now) }
+    {
+        let bytes = as_bytes(alloc, numbers)?;
+        Ok(Row { bytes })
+    }
+
     /// So many zero bytes. An `Err` is want of memory.
     pub fn zeros(alloc: Global, size: u64) -> Result<Row, AllocError>
         ensures { IfOk result (λ row. row ≡ calls.zeros size) }

@@ -28,6 +28,9 @@ fn a_pointer_comes_back_whole_and_alone(rt: HostRuntime) -> Result<(), Fail> {
     assert_eq!(rt; longer.byte_at(39), Some(Byte::Number(0)));
     let copy = longer.copied(rt.alloc())?;
     assert_eq!(rt; copy.byte_at(9), Some(Byte::Number(0xff)));
+    let spelled = Row::of_numbers(rt.alloc(), &[1, 2, 0x80])?;
+    assert_eq!(rt; spelled.size(), 3);
+    assert_eq!(rt; spelled.value_at(1, 2), Some(Value::Num(0x8002)));
     Ok(())
 }
 
