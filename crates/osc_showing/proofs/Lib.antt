@@ -1,0 +1,4 @@
+pub mod Folds
+pub mod Wiping
+pub mod Growing
+pub mod Shown

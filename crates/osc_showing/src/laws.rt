@@ -1,0 +1,21 @@
+//! The laws of what tables show. Each function does nothing: what it says is proved of the definitions.
+
+ghost use Rattle.osc_showing.specs.ShowLaws.{RulesTurn, TurnsShow, JobsShow};
+
+/// The changes of a call, one after another from a rest on, turn the old tables into the kept ones: its jobs
+/// write what is kept or clear it, they make each new table before they link it, and each old entry that
+/// goes is cleared before any cache is.
+pub fn rules_turn()
+    ensures { RulesTurn }
+{}
+
+/// Words that agree with the old tables show what the turn allows: what is kept, nothing, or what is about
+/// to go.
+pub fn turns_show()
+    ensures { TurnsShow }
+{}
+
+/// And so do the words after each job, while it is done, and after each store in a frame that is no table.
+pub fn jobs_show()
+    ensures { JobsShow }
+{}
