@@ -2,3 +2,4 @@ pub mod Folds
 pub mod Wiping
 pub mod Growing
 pub mod Shown
+pub mod Plans

@@ -1,6 +1,7 @@
 //! The laws of what tables show. Each function does nothing: what it says is proved of the definitions.
 
 ghost use Rattle.osc_showing.specs.ShowLaws.{RulesTurn, TurnsShow, JobsShow};
+ghost use Rattle.osc_showing.specs.PlanTurns.{PlansTurn};
 
 /// The changes of a call, one after another from a rest on, turn the old tables into the kept ones: its jobs
 /// write what is kept or clear it, they make each new table before they link it, and each old entry that
@@ -18,4 +19,10 @@ pub fn turns_show()
 /// And so do the words after each job, while it is done, and after each store in a frame that is no table.
 pub fn jobs_show()
     ensures { JobsShow }
+{}
+
+/// Each malloc and each free turns the tables of its process, refused or not; where blocks are to be given
+/// back, each hart's cache is to be cleared before.
+pub fn plans_turn()
+    ensures { PlansTurn }
 {}
