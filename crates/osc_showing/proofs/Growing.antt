@@ -77,7 +77,7 @@ turns-on old t u free after js more k m = record {
         ⊎_elim (λ (a : piece_of t.tables f ≡ Some p.0). inl (some-is a)) (λ (a : (p.0.level ≡ 0) × (piece_of t.aside f ≡ Some p.0)). inr (some-is a.1)) (k.olds f p.0 p.1)
 
 -- ---- frames that are taken, and jobs elsewhere
-tidy-taken : (t : KeptTables) (free after : List Bool) → Tidy t free → KeepsTaken free after → Tidy t after
+pub tidy-taken : (t : KeptTables) (free after : List Bool) → Tidy t free → KeepsTaken free after → Tidy t after
 tidy-taken t free after k m = record {
   small = (let a = m.size in let b = k.small in omega (arith, a, b));
   apart = k.apart;
@@ -369,3 +369,28 @@ maps-turns old (m ∷ ms) n c reads none k =
     (put-turns old n m (link_all c.tables.top n c) reads.0
     (ap (λ ps. mapping_at ps n) (link_all-pages c.tables.top n c) ∙ ⊎_elim (λ (e : mapping_at c.tables.pages n ≡ None). e) (λ (h : n + suc (length ms) ≤ n). absurd (omega (arith, h))) (none n (omega arith)))
     (link_all-turns old c.tables.top n c k))
+
+-- ---- the caches that are due stay so
+due-link : (hart l n : ℕ) (c : Changed) → list_any (clears hart) c.jobs ≡ true → list_any (clears hart) (link l n c).jobs ≡ true
+due-link hart l n c e = go (frame_of c.tables.tables l n) (frame_of c.tables.tables (suc l) (n / 512)) (position (λ b. b) c.free)
+  where
+    go : (x y z : Option ℕ) → list_any (clears hart) (linked l n x y z c).jobs ≡ true
+    go (Some f) y z = e
+    go None None z = e
+    go None (Some parent) None = e
+    go None (Some parent) (Some frame) = due-more hart c.jobs _ e
+
+due-link_all : (hart l n : ℕ) (c : Changed) → list_any (clears hart) c.jobs ≡ true → list_any (clears hart) (link_all l n c).jobs ≡ true
+unfolding link_all
+due-link_all hart zero n c e = e
+due-link_all hart (suc l) n c e = due-link_all hart l n (link l (piece (suc l) n) c) (due-link hart l (piece (suc l) n) c e)
+
+due-put : (hart n : ℕ) (m : Mapping) (x : Option ℕ) (c : Changed) → list_any (clears hart) c.jobs ≡ true → list_any (clears hart) (leaf_put n m x c).jobs ≡ true
+due-put hart n m None c e = e
+due-put hart n m (Some table) c e = due-more hart c.jobs _ e
+
+pub due-maps : (ms : List Mapping) (n : ℕ) (c : Changed) (hart : ℕ) → list_any (clears hart) c.jobs ≡ true → list_any (clears hart) (map_pages n ms c).jobs ≡ true
+due-maps [] n c hart e = e
+due-maps (m ∷ ms) n c hart e =
+    let d = link_all c.tables.top n c in
+    due-maps ms (n + 1) (map_page n m c) hart (due-put hart n m (frame_of d.tables.tables 0 (n / 512)) d (due-link_all hart c.tables.top n c e))

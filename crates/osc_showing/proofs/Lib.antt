@@ -3,3 +3,4 @@ pub mod Wiping
 pub mod Growing
 pub mod Shown
 pub mod Plans
+pub mod ReallocPlans

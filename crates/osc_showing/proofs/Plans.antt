@@ -33,7 +33,7 @@ use Rattle.osc_parts.proofs.MallocParts.{Mallocs, mallocs}
 use Rattle.osc_parts.proofs.FreeParts.{Frees, waits_objects}
 use Rattle.osc_parts.proofs.FreeReturn.{taken_lives}
 use Rattle.osc_showing.specs.Showing.{AllDue, Turned, IsPlain, AllRead}
-use Rattle.osc_showing.specs.PlanTurns.{PlanTurns, PlansTurn}
+use Rattle.osc_showing.specs.PlanTurns.{PlanTurns}
 use Rattle.osc_showing.proofs.Wiping.{Wiping, rest-wipes, unmap_all-wipes, reclaim_all-wipes, wiped-turns}
 use Rattle.osc_showing.proofs.Growing.{maps-turns, clears-due, clear-turns, plain-turns}
 use Rattle.osc_showing.proofs.Shown.{tidy-of}
@@ -62,7 +62,7 @@ no-mapping (Some m) e = absurd (let b : ⊥ = grind (arith, e) in b)
 pub past-mark : (objects : List ObjectFact) (q : ℕ) → AreGranted objects → next_page objects ≤ q → is_live_page objects q ≡ false
 past-mark objects q g l = any-none (λ o. is_live o && has_page q o) objects (λ i o e. (let w = (pages_are_granted_once objects g).within i o e in let high = w.1 in let none : has_page q o ≡ false = grind (arith, nat_tests, high, l) in grind (arith, none)))
 
-all-read : (ms : List Mapping) → shapes.AllRead ms → AllRead ms
+pub all-read : (ms : List Mapping) → shapes.AllRead ms → AllRead ms
 all-read [] a = tt
 all-read (m ∷ ms) a = (a.0, all-read ms a.1)
 
@@ -204,6 +204,3 @@ free-turns batch pointer entries words regions terms found d k t e = seen (objec
           is_fact = ((looks_find_objects d.space.objects k.parts.agrees.heap.granted).at pointer s f).0;
           live = taken_lives s found g;
         })
-
-pub plans_turn : PlansTurn
-plans_turn = record { malloc = malloc-turns; free = free-turns }

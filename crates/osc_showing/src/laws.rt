@@ -21,8 +21,8 @@ pub fn jobs_show()
     ensures { JobsShow }
 {}
 
-/// Each malloc and each free turns the tables of its process, refused or not; where blocks are to be given
-/// back, each hart's cache is to be cleared before.
+/// Each malloc, free and realloc turns the tables of its process, refused or not; where blocks are to be
+/// given back, each hart's cache is to be cleared before.
 pub fn plans_turn()
     ensures { PlansTurn }
 {}
