@@ -87,7 +87,7 @@ reads-zero value to z e = no-table to (subst (λ v. entry_of v ≡ Table to) z e
 pub some-is : {A : Type 0} {x : Option A} {y : A} → x ≡ Some y → x ≢ None
 some-is e n = let h = sym n ∙ e in let b : ⊥ = grind (arith, h) in b
 
-small-frame : (t : KeptTables) (free : List Bool) (l n g : ℕ) → Tidy t free → frame_of t.tables l n ≡ Some g → g < 4294967296
+pub small-frame : (t : KeptTables) (free : List Bool) (l n g : ℕ) → Tidy t free → frame_of t.tables l n ≡ Some g → g < 4294967296
 small-frame t free l n g k e =
     let w = slice_get_within free g false (k.taken g _ (apart-found t.tables l n g k.apart e)) in
     let s = k.small in

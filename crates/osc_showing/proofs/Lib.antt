@@ -4,3 +4,4 @@ pub mod Growing
 pub mod Shown
 pub mod Plans
 pub mod ReallocPlans
+pub mod Leading

@@ -2,6 +2,7 @@
 
 ghost use Rattle.osc_showing.specs.ShowLaws.{RulesTurn, TurnsShow, JobsShow};
 ghost use Rattle.osc_showing.specs.PlanTurns.{PlansTurn};
+ghost use Rattle.osc_showing.specs.Leading.{ShownLeads};
 
 /// The changes of a call, one after another from a rest on, turn the old tables into the kept ones: its jobs
 /// write what is kept or clear it, they make each new table before they link it, and each old entry that
@@ -25,4 +26,10 @@ pub fn jobs_show()
 /// given back, each hart's cache is to be cleared before.
 pub fn plans_turn()
     ensures { PlansTurn }
+{}
+
+/// What is shown of a table leads to what is kept, or to a page or a leaf table that was kept at the plan and
+/// is about to go, while each cache that the call clears is still to be cleared.
+pub fn shown_leads()
+    ensures { ShownLeads }
 {}
