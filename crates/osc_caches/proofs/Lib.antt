@@ -1,0 +1,6 @@
+pub mod Refits
+pub mod WordSteps
+pub mod HeapShows
+pub mod DataFrames
+pub mod Stores
+pub mod Copies

@@ -1,0 +1,4 @@
+pub mod Words
+pub mod HeapShows
+pub mod DataFrames
+pub mod Stores

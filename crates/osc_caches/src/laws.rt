@@ -1,0 +1,33 @@
+//! The laws of words and of caches. Each function does nothing: what it says is proved of the
+//! definitions.
+
+ghost use Rattle.osc_caches.specs.Words.{StepsKeepWords};
+ghost use Rattle.osc_caches.specs.HeapShows.{HeapPlansShow, HeapJobsShow};
+ghost use Rattle.osc_caches.specs.DataFrames.{DataIsNoTable};
+ghost use Rattle.osc_caches.specs.Stores.{StoresLeave, HeapCallsCopy};
+
+/// Each step keeps the agreement of the machine's own words with the kept tables, once the pending work is
+/// done: the kernel's steps all do, and so does a guest's store that leaves them.
+pub fn words_agree()
+    ensures { StepsKeepWords }
+{}
+
+/// From its plan on, refused or not, and after each of its jobs, the words show of the tables of a process
+/// in a call on the heap what is kept, nothing, or what is about to go while every cache is to be cleared.
+pub fn heap_calls_show()
+    ensures plans { HeapPlansShow }
+    ensures jobs { HeapJobsShow }
+{}
+
+/// The frame of a mapped page, and of a page that holds a block, is no table of any process that has not
+/// ended: so a store through it changes no table.
+pub fn data_is_no_table()
+    ensures { DataIsNoTable }
+{}
+
+/// A store in a frame that is no table leaves the agreement of words and tables, whatever work is pending, as
+/// long as nothing is copied into a table; and in a call on the heap nothing is.
+pub fn stores_leave()
+    ensures stores { StoresLeave }
+    ensures copies { HeapCallsCopy }
+{}
