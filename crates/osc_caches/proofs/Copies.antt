@@ -21,7 +21,7 @@ use Rattle.osc_caches.specs.HeapShows.{CallShows}
 use Rattle.osc_caches.specs.Stores.{AllCopyElsewhere, CopiesFit, HeapCallsCopy}
 
 -- into none of the caller's
-own-copies : (t : KeptTables) (free : List Bool) (jobs : List Job) → JobsFit t free jobs → AllCopyElsewhere t jobs
+pub own-copies : (t : KeptTables) (free : List Bool) (jobs : List Job) → JobsFit t free jobs → AllCopyElsewhere t jobs
 own-copies t free [] j = tt
 own-copies t free (PutWord at value ∷ jobs) j = (tt, own-copies t free jobs j.1)
 own-copies t free (ZeroWords at count ∷ jobs) j = (tt, own-copies t free jobs j.1)

@@ -119,7 +119,7 @@ elsewhere-shows harts old t free entries job rest words q w s =
 not-any : (t : KeptTables) (f : ℕ) → IsAnyTable t f → IsNoTable t f → ⊥
 not-any t f h n = ⊎_elim (λ (a : IsTable t f). a n.0) (λ (a : piece_of t.aside f ≢ None). a n.1) h
 
-job-shows : (harts : ℕ) (old t : KeptTables) (free : List Bool) (entries : ℕ → ℕ → ℕ) (job : Job) (rest : List Job) (words : List ℕ)
+pub job-shows : (harts : ℕ) (old t : KeptTables) (free : List Bool) (entries : ℕ → ℕ → ℕ) (job : Job) (rest : List Job) (words : List ℕ)
     → Shows harts old t free (job ∷ rest) words → Shows harts old t free rest (words_done entries job words)
 job-shows harts old t free entries (PutWord at value) rest words s = put-shows harts old t free at value rest words s
 job-shows harts old t free entries (ZeroWords at count) rest words s =

@@ -4,3 +4,4 @@ pub mod HeapShows
 pub mod DataFrames
 pub mod Stores
 pub mod Copies
+pub mod Working

@@ -28,9 +28,9 @@ use Rattle.osc_caches.specs.DataFrames.{IsNobodysTable}
 use Rattle.osc_caches.specs.Stores.{CopiesElsewhere, AllCopyElsewhere, CopiesFit, StoresLeave}
 
 -- ---- words that are the same in all tables
-record SameOn (t : KeptTables) (w v : List ℕ) : Type 0 where
-  size : length v ≡ length w
-  same : (f i : ℕ) → i < 512 → IsAnyTable t f → word_at v f i ≡ word_at w f i
+pub record SameOn (t : KeptTables) (w v : List ℕ) : Type 0 where
+  pub size : length v ≡ length w
+  pub same : (f i : ℕ) → i < 512 → IsAnyTable t f → word_at v f i ≡ word_at w f i
 
 agrees-same : (t : KeptTables) (free : List Bool) (w v : List ℕ) → SameOn t w v → Agrees t free w → Agrees t free v
 agrees-same t free w v s a = record {
@@ -92,12 +92,12 @@ same-after entries t [] w v c s = s
 same-after entries t (job ∷ jobs) w v c s = same-after entries t jobs (words_done entries job w) (words_done entries job v) c.1 (same-done entries t job w v c.0 s)
 
 -- ---- moves
-abbrev MoveElsewhere : KeptTables → Move → Type 0
+abbrev pub MoveElsewhere : KeptTables → Move → Type 0
 MoveElsewhere t (move.Copy from to) = (to.index < 512) × IsNoTable t to.frame
 MoveElsewhere t (move.CopyLow from to bytes) = (to.index < 512) × IsNoTable t to.frame
 MoveElsewhere t m = Unit {0}
 
-abbrev AllMoveElsewhere : KeptTables → List Move → Type 0
+abbrev pub AllMoveElsewhere : KeptTables → List Move → Type 0
 AllMoveElsewhere t [] = Unit {0}
 AllMoveElsewhere t (m ∷ moves) = MoveElsewhere t m × AllMoveElsewhere t moves
 
@@ -120,7 +120,7 @@ same-moves : (t : KeptTables) (moves : List Move) (w v : List ℕ) → AllMoveEl
 same-moves t [] w v c s = s
 same-moves t (m ∷ moves) w v c s = same-moves t moves (words_moved m w) (words_moved m v) c.1 (same-moved t m w v c.0 s)
 
-same-then : (t : KeptTables) (moves : List Move) (read : Option ℕ) (w v : List ℕ) → AllMoveElsewhere t moves → SameOn t w v → SameOn t (words_then moves read w) (words_then moves read v)
+pub same-then : (t : KeptTables) (moves : List Move) (read : Option ℕ) (w v : List ℕ) → AllMoveElsewhere t moves → SameOn t w v → SameOn t (words_then moves read w) (words_then moves read v)
 same-then t [] read w v c s = s
 same-then t (move.Copy from to ∷ moves) (Some word) w v c s = same-moves t moves _ _ c.1 (same-stored t w v to.frame to.index word word c.0 s)
 same-then t (move.Copy from to ∷ moves) None w v c s = same-moves t (move.Copy from to ∷ moves) w v c s
@@ -139,7 +139,7 @@ copies-elsewhere : (t : KeptTables) (from to : WordAt) (first count : ℕ) → t
 copies-elsewhere t from to first zero l n = tt
 copies-elsewhere t from to first (suc count) l n = ((omega (arith, l), n), copies-elsewhere t from to (first + 1) count (omega (arith, l)) n)
 
-job-moves : (entries : ℕ → ℕ → ℕ) (t : KeptTables) (job : Job) → CopiesElsewhere t job → AllMoveElsewhere t (moves_of entries job)
+pub job-moves : (entries : ℕ → ℕ → ℕ) (t : KeptTables) (job : Job) → CopiesElsewhere t job → AllMoveElsewhere t (moves_of entries job)
 job-moves entries t (PutWord at value) c = (tt, tt)
 job-moves entries t (ZeroWords at count) c = puts-elsewhere t (λ k. after at k) (λ k. 0) 0 count
 job-moves entries t (CopyWords from to count) c = copies-elsewhere t from to 0 count (let l = c.0 in omega (arith, l)) c.1
@@ -149,11 +149,11 @@ job-moves entries t (ClearBox hart) c = (tt, tt)
 job-moves entries t (Tell hart) c = (tt, tt)
 job-moves entries t (ToOut at first count) c = (tt, tt)
 
-left-moves : (t : KeptTables) (before moves : List Move) → AllMoveElsewhere t (before ++ moves) → AllMoveElsewhere t moves
+pub left-moves : (t : KeptTables) (before moves : List Move) → AllMoveElsewhere t (before ++ moves) → AllMoveElsewhere t moves
 left-moves t [] moves c = c
 left-moves t (m ∷ before) moves c = left-moves t before moves c.1
 
-first-copies : (t : KeptTables) (jobs : List Job) (job : Job) → slice_get jobs 0 ≡ Some job → AllCopyElsewhere t jobs → CopiesElsewhere t job × AllCopyElsewhere t (drop 1 jobs)
+pub first-copies : (t : KeptTables) (jobs : List Job) (job : Job) → slice_get jobs 0 ≡ Some job → AllCopyElsewhere t jobs → CopiesElsewhere t job × AllCopyElsewhere t (drop 1 jobs)
 first-copies t [] job e c = absurd (let b : ⊥ = grind (arith, e) in b)
 first-copies t (x ∷ jobs) job e c = (let same : x ≡ job = grind (arith, e) in (subst (CopiesElsewhere t) same c.0, c.1))
 
@@ -171,7 +171,7 @@ same-end k t n (Working moves read) w v stands c s =
 same-end k t n (GivingBoxes box) w v stands c s = same-after (entries k) t k.jobs w v c s
 same-end k t n (Returning return) w v stands c s = same-after (entries k) t k.jobs w v c s
 
-stored-same : (t : KeptTables) (w : List ℕ) (frame index value : ℕ) → index < 512 → IsNoTable t frame → SameOn t w (put_word w frame index value)
+pub stored-same : (t : KeptTables) (w : List ℕ) (frame index value : ℕ) → index < 512 → IsNoTable t frame → SameOn t w (put_word w frame index value)
 stored-same t w frame index value l n = record {
   size = length-set w (frame * 512 + index) value;
   same = λ f i m h. job_elsewhere (λ a b. 0) t (PutWord (record { frame = frame; index = index }) value) w f i (l, n) m h;

@@ -34,17 +34,12 @@ use Rattle.osc_safe.specs.Holding.{Holds}
 use Rattle.osc_safe.specs.Standing.{FitsSome, IsFor, IsCommitted, StandsAt, AtHome, InHand, HandStands, Stands}
 use Rattle.osc_safe.proofs.KernelRows.{home-is, hand-is-one}
 use Rattle.osc_safe.proofs.StandingSteps.{each-written}
-use Rattle.osc_caches.specs.Words.{words_then, words_in_end, AllAgree, WordsAgree, StoreLeaves, StepsKeepWords}
+use Rattle.osc_caches.specs.Words.{words_then, words_in_end, Does, AllAgree, WordsAgree, StoreLeaves, StepsKeepWords}
 use Rattle.osc_caches.proofs.Refits.{all-agree, refit, unread, on-end}
 
 -- ---- the moves of a job
--- what an action does to the words, and which word it tells
-abbrev pub Does : HartAsk → ℕ → List ℕ → List ℕ → Type 0
-Does (does.Load from) word words now = (word ≡ word_at words from.frame from.index) × (now ≡ words)
-Does (does.Store to value) word words now = now ≡ put_word words to.frame to.index value
-Does a word words now = now ≡ words
-
-abbrev InEnd : MovesLeft → List ℕ → List ℕ
+-- the words once what is left was done
+abbrev pub InEnd : MovesLeft → List ℕ → List ℕ
 InEnd (StillAt moves read) words = words_then moves read words
 InEnd AllDone words = words
 
@@ -52,7 +47,7 @@ rest-end : (moves : List Move) (words : List ℕ) → InEnd (rest_of moves) word
 rest-end [] words = refl
 rest-end (m ∷ moves) words = unread (m ∷ moves) words
 
-moved : (moves : List Move) (read : Option ℕ) (word : ℕ) (words now : List ℕ) → Does (move_ask moves read) word words now
+pub moved : (moves : List Move) (read : Option ℕ) (word : ℕ) (words now : List ℕ) → Does (move_ask moves read) word words now
     → InEnd (moves_left moves read word) now ≡ words_then moves read words
 moved [] read word words now d = d
 moved (move.Put to value ∷ moves) read word words now d = rest-end moves now ∙ ap (words_after_moves moves) d

@@ -2,3 +2,4 @@ pub mod Words
 pub mod HeapShows
 pub mod DataFrames
 pub mod Stores
+pub mod Working

@@ -2,14 +2,15 @@
 -- that the kernel keeps. This project's own.
 use Rattle.std.specs.Prelude.{ℕ, ◌*◌, ◌≡◌, Option, Some, None, List, [], ◌∷◌, length, slice_get, drop}
 use Rattle.osc_word.specs.declared.job_list.WordAt.{WordAt}
-use Rattle.osc_sv39.specs.Walk.{put_word}
+use Rattle.osc_sv39.specs.Walk.{word_at, put_word}
 use Rattle.osc_paging.specs.JobWords.{words_after}
 use Rattle.osc_paging.specs.Agree.{Agrees}
 use Rattle.osc_calls.specs.Kernel.{KernelState, Process, process_at}
 use Rattle.osc_calls.specs.Moves.{Move, Copy, CopyLow, low_bytes}
 use Rattle.osc_calls.specs.MoveLaws.{words_after_moves}
 use Rattle.osc_calls.specs.JobDone.{entries}
-use Rattle.osc_machine.specs.declared.HartAsk.TheVariants.{Store}
+use Rattle.osc_machine.specs.declared.HartAsk.{HartAsk}
+use Rattle.osc_machine.specs.declared.HartAsk.TheVariants.{Load, Store}
 use Rattle.osc_machine.specs.Parts.{CallPlace, Outside, Working, HartState, State}
 use Rattle.osc_machine.specs.Turns.{hart_ask}
 use Rattle.osc_machine.specs.Step.{step}
@@ -28,6 +29,13 @@ words_then moves read words = words_after_moves moves words
 abbrev pub words_in_end : CallPlace → KernelState → List ℕ → List ℕ
 words_in_end (Working moves read) k words = words_after (entries k) (drop 1 k.jobs) (words_then moves read words)
 words_in_end place k words = words_after (entries k) k.jobs words
+
+-- ---- actions
+-- what an action does to the words, and which word it tells
+abbrev pub Does : HartAsk → ℕ → List ℕ → List ℕ → Type 0
+Does (Load from) word words now = (word ≡ word_at words from.frame from.index) × (now ≡ words)
+Does (Store to value) word words now = now ≡ put_word words to.frame to.index value
+Does a word words now = now ≡ words
 
 -- ---- the agreement
 -- the words are those of the tables of each process that has not ended

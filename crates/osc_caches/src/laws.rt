@@ -5,6 +5,7 @@ ghost use Rattle.osc_caches.specs.Words.{StepsKeepWords};
 ghost use Rattle.osc_caches.specs.HeapShows.{HeapPlansShow, HeapJobsShow};
 ghost use Rattle.osc_caches.specs.DataFrames.{DataIsNoTable};
 ghost use Rattle.osc_caches.specs.Stores.{StoresLeave, HeapCallsCopy};
+ghost use Rattle.osc_caches.specs.Working.{WorkKeepsShowing};
 
 /// Each step keeps the agreement of the machine's own words with the kept tables, once the pending work is
 /// done: the kernel's steps all do, and so does a guest's store that leaves them.
@@ -30,4 +31,10 @@ pub fn data_is_no_table()
 pub fn stores_leave()
     ensures stores { StoresLeave }
     ensures copies { HeapCallsCopy }
+{}
+
+/// While a job of a call on the heap is under way the words show what they may, and will once its moves are
+/// done: from its first move to its last, and through each store of another hart in a frame that is no table.
+pub fn work_keeps_showing()
+    ensures { WorkKeepsShowing }
 {}
