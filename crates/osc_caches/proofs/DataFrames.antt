@@ -90,14 +90,14 @@ any-at f (x ∷ xs) e = go (f x) refl (any-at f xs)
     go true d later = (0, x, refl, d)
     go false d later = (let l = later (grind (arith, e, d)) in (suc l.0, l.1, l.2, l.3))
 
-some-frame : (o : Option ℕ) (m : Mapping) → option_map read_write_at o ≡ Some m → o ≡ Some m.frame
+pub some-frame : (o : Option ℕ) (m : Mapping) → option_map read_write_at o ≡ Some m → o ≡ Some m.frame
 some-frame None m e = absurd (let b : ⊥ = grind (arith, e) in b)
 some-frame (Some f) m e = (let same : read_write_at f ≡ m = grind (arith, e) in ap Some (ap (λ (z : Mapping). z.frame) same))
 
 both-true : (a b : Bool) → (a && b) ≡ true → (a ≡ true) × (b ≡ true)
 both-true a b e = grind (arith, e)
 
-in-range : (n : ℕ) (o : ObjectFact) → has_page n o ≡ true → (o.first ≤ n) × (n < o.first + o.pages)
+pub in-range : (n : ℕ) (o : ObjectFact) → has_page n o ≡ true → (o.first ≤ n) × (n < o.first + o.pages)
 in-range n o e = grind (arith, nat_tests, e)
 
 no-range : (a b c d : Bool) → a ≡ false → b ≡ false → c ≡ false → d ≡ false → (a || b || c || d) ≡ true → ⊥

@@ -5,3 +5,4 @@ pub mod DataFrames
 pub mod Stores
 pub mod Copies
 pub mod Working
+pub mod Going

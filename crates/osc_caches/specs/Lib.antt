@@ -3,3 +3,4 @@ pub mod HeapShows
 pub mod DataFrames
 pub mod Stores
 pub mod Working
+pub mod Going

@@ -6,6 +6,7 @@ ghost use Rattle.osc_caches.specs.HeapShows.{HeapPlansShow, HeapJobsShow};
 ghost use Rattle.osc_caches.specs.DataFrames.{DataIsNoTable};
 ghost use Rattle.osc_caches.specs.Stores.{StoresLeave, HeapCallsCopy};
 ghost use Rattle.osc_caches.specs.Working.{WorkKeepsShowing};
+ghost use Rattle.osc_caches.specs.Going.{PlansGo};
 
 /// Each step keeps the agreement of the machine's own words with the kept tables, once the pending work is
 /// done: the kernel's steps all do, and so does a guest's store that leaves them.
@@ -37,4 +38,10 @@ pub fn stores_leave()
 /// done: from its first move to its last, and through each store of another hart in a frame that is no table.
 pub fn work_keeps_showing()
     ensures { WorkKeepsShowing }
+{}
+
+/// After each malloc, free and realloc a page that was mapped still is, or it is a page of an object that
+/// waits or was replaced, with the frame of its page of the object's block; and what went before still does.
+pub fn pages_go()
+    ensures { PlansGo }
 {}
