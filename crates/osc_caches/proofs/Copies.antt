@@ -44,7 +44,7 @@ other-copies own t (ClearBox hart ∷ jobs) h w = (tt, other-copies own t jobs h
 other-copies own t (Tell hart ∷ jobs) h w = (tt, other-copies own t jobs h w.1)
 other-copies own t (ToOut at first count ∷ jobs) h w = (tt, other-copies own t jobs h w.1)
 
-alone-no-table : (words : List ℕ) (k : KernelState) (pid q : ℕ) (p r : Process) → KernelFits words k → q ≢ pid → process_at k pid ≡ Some p → process_at k q ≡ Some r → p.status ≡ None → r.status ≡ None
+pub alone-no-table : (words : List ℕ) (k : KernelState) (pid q : ℕ) (p r : Process) → KernelFits words k → q ≢ pid → process_at k pid ≡ Some p → process_at k q ≡ Some r → p.status ≡ None → r.status ≡ None
     → (frame : ℕ) → HasAlone k.regions (Some p) frame → IsNoTable r.space.tables frame
 alone-no-table words k pid q p r fits apart here there lives alive frame a =
     let both = processes_apart words k q pid r p fits apart there here alive lives frame in

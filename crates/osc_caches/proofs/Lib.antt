@@ -6,3 +6,4 @@ pub mod Stores
 pub mod Copies
 pub mod Working
 pub mod Going
+pub mod KeptShown

@@ -4,3 +4,4 @@ pub mod DataFrames
 pub mod Stores
 pub mod Working
 pub mod Going
+pub mod KeptShown

@@ -7,6 +7,7 @@ ghost use Rattle.osc_caches.specs.DataFrames.{DataIsNoTable};
 ghost use Rattle.osc_caches.specs.Stores.{StoresLeave, HeapCallsCopy};
 ghost use Rattle.osc_caches.specs.Working.{WorkKeepsShowing};
 ghost use Rattle.osc_caches.specs.Going.{PlansGo};
+ghost use Rattle.osc_caches.specs.KeptShown.{KeptShown};
 
 /// Each step keeps the agreement of the machine's own words with the kept tables, once the pending work is
 /// done: the kernel's steps all do, and so does a guest's store that leaves them.
@@ -44,4 +45,10 @@ pub fn work_keeps_showing()
 /// waits or was replaced, with the frame of its page of the object's block; and what went before still does.
 pub fn pages_go()
     ensures { PlansGo }
+{}
+
+/// Where no pending job writes a process's tables, their words are the kept ones: so it is of every process
+/// while no job is pending, and of each but the one for which the call's jobs are.
+pub fn kept_shown()
+    ensures { KeptShown }
 {}
