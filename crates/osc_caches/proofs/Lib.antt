@@ -7,3 +7,4 @@ pub mod Copies
 pub mod Working
 pub mod Going
 pub mod KeptShown
+pub mod ShowSteps

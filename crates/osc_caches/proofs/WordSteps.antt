@@ -62,16 +62,16 @@ moved (move.ChangeBox box ∷ moves) read word words now d = rest-end moves now 
 moved (move.Out from ∷ moves) read word words now d = rest-end moves now ∙ ap (words_after_moves moves) d.1
 
 -- ---- a hart that turns
-abbrev HandAgree : HartState → List ℕ → Type 0
+abbrev pub HandAgree : HartState → List ℕ → Type 0
 HandAgree h words = (k : KernelState) → h.kernel ≡ Some k → AllAgree k (words_in_end h.place k words)
 
 hand-is : (words : List ℕ) (turn made : Turn) (k : KernelState) → turn ≡ made → made.hart.kernel ≡ Some k → AllAgree k (words_in_end made.hart.place k words) → HandAgree turn.hart words
 hand-is words turn made k i e a = subst (λ (x : Turn). HandAgree x.hart words) (sym i) (λ other f. (let same : k ≡ other = grind (arith, e, f) in subst (λ z. AllAgree z (words_in_end made.hart.place z words)) same a))
 
-agree-at : (words : List ℕ) (h : HartState) (k : KernelState) (p : CallPlace) → HandAgree h words → h.kernel ≡ Some k → h.place ≡ p → AllAgree k (words_in_end p k words)
+pub agree-at : (words : List ℕ) (h : HartState) (k : KernelState) (p : CallPlace) → HandAgree h words → h.kernel ≡ Some k → h.place ≡ p → AllAgree k (words_in_end p k words)
 agree-at words h k p a e f = subst (λ q. AllAgree k (words_in_end q k words)) f (a k e)
 
-stands-at : (n : ℕ) (h : HartState) (k : KernelState) (p : CallPlace) → HandStands n h → h.kernel ≡ Some k → h.place ≡ p → InHand n p k
+pub stands-at : (n : ℕ) (h : HartState) (k : KernelState) (p : CallPlace) → HandStands n h → h.kernel ≡ Some k → h.place ≡ p → InHand n p k
 stands-at n h k p stands e f = subst (λ q. InHand n q k) f (stands k e)
 
 -- a kernel that it is told of was at home
@@ -145,7 +145,7 @@ turned-agrees s u n h t a words stands agree asks hs from home acts = record {
 }
 
 -- what is true of the hart that is written and of each other one
-each-other : (P : ℕ → HartState → Type 0) (harts : List HartState) (n : ℕ) (x : HartState) → ((m : ℕ) (h : HartState) → m ≢ n → slice_get harts m ≡ Some h → P m h) → P n x
+pub each-other : (P : ℕ → HartState → Type 0) (harts : List HartState) (n : ℕ) (x : HartState) → ((m : ℕ) (h : HartState) → m ≢ n → slice_get harts m ≡ Some h → P m h) → P n x
     → (m : ℕ) (y : HartState) → slice_get (set harts n x) m ≡ Some y → P m y
 each-other P harts n x all mine m y e = go (m == n) refl
   where
@@ -164,7 +164,7 @@ asked-move : (h : HartState) (a : HartAsk) (moves : List Move) (read : Option �
 unfolding hart_ask
 asked-move h a moves read asks at = ap (λ p. place_ask p h) (sym at) ∙ asks
 
-by-ask : (s : State) (n : ℕ) (h : HartState) (a : HartAsk) (word : ℕ) (words now : List ℕ) → Asks s n h a → Does a word words now
+pub by-ask : (s : State) (n : ℕ) (h : HartState) (a : HartAsk) (word : ℕ) (words now : List ℕ) → Asks s n h a → Does a word words now
     → (moves : List Move) (read : Option ℕ) → h.place ≡ Working moves read → Does (move_ask moves read) word words now
 by-ask s n h a word words now asks d moves read at = subst (λ z. Does z word words now) (sym (asked-move h a moves read asks.asks at)) d
 
@@ -201,12 +201,12 @@ store-place (Working moves read) h to value e = inr (moves, read, refl)
 store-place (GivingBoxes box) h to value e = absurd (let b : ⊥ = grind (arith, e) in b)
 store-place (Returning return) h to value e = absurd (let b : ⊥ = grind (arith, e) in b)
 
-storer : (s : State) (n : ℕ) (h : HartState) (to : WordAt) (value : ℕ) → Asks s n h (does.Store to value) → (h.place ≡ Outside) ⊎ ((moves : List Move) × (read : Option ℕ) × (h.place ≡ Working moves read))
+pub storer : (s : State) (n : ℕ) (h : HartState) (to : WordAt) (value : ℕ) → Asks s n h (does.Store to value) → (h.place ≡ Outside) ⊎ ((moves : List Move) × (read : Option ℕ) × (h.place ≡ Working moves read))
 unfolding hart_ask
 storer s n h to value asks = store-place h.place h to value asks.asks
 
 -- nobody else has the kernel of a committed call
-alone : (s : State) (n m : ℕ) (h g : HartState) (k other : KernelState) → Stands s → slice_get s.harts n ≡ Some h → h.kernel ≡ Some k → slice_get s.harts m ≡ Some g → g.kernel ≡ Some other → other ≡ k → IsCommitted k → n ≡ m
+pub alone : (s : State) (n m : ℕ) (h g : HartState) (k other : KernelState) → Stands s → slice_get s.harts n ≡ Some h → h.kernel ≡ Some k → slice_get s.harts m ≡ Some g → g.kernel ≡ Some other → other ≡ k → IsCommitted k → n ≡ m
 alone s n m h g k other stands here ke there oe same committed =
     let a = stands.hand n h here k ke in
     let b = stands.hand m g there other oe in
@@ -216,11 +216,11 @@ alone s n m h g k other stands here ke there oe same committed =
     sym x ∙ y
 
 -- a job's store
-told_work : (h : HartState) (moves : List Move) (read : Option ℕ) (k : KernelState) → h.place ≡ Working moves read → h.kernel ≡ Some k → hart_told h Done ≡ action_done moves read 0 k h
+pub told_work : (h : HartState) (moves : List Move) (read : Option ℕ) (k : KernelState) → h.place ≡ Working moves read → h.kernel ≡ Some k → hart_told h Done ≡ action_done moves read 0 k h
 unfolding hart_told
 told_work h moves read k e f = ap (λ q. place_told q h.kernel h Done) e ∙ ap (λ o. place_told (Working moves read) o h Done) f
 
-abbrev made_by_left : List Move → KernelState → HartState → MovesLeft → Turn
+abbrev pub made_by_left : List Move → KernelState → HartState → MovesLeft → Turn
 made_by_left moves k h p = let s = kernel_after p 0 k in in_call false s (place_after p s.kernel h.boxes) (record h { clears = clears_by moves k h.clears })
 
 left-agrees : (p : MovesLeft) (moves : List Move) (k : KernelState) (h : HartState) (now then : List ℕ) → InEnd p now ≡ then → AllAgree k (words_after (entries k) (drop 1 k.jobs) then) → HandAgree (made_by_left moves k h p).hart now
@@ -228,7 +228,7 @@ left-agrees (StillAt left read) moves k h now then e a = hand-is now (made_by_le
 left-agrees AllDone moves k h now then e a =
     hand-is now (made_by_left moves k h AllDone) _ (job_done 0 k).kernel refl refl (done-end now 0 k h.boxes (subst (λ z. AllAgree k (words_after (entries k) (drop 1 k.jobs) z)) (sym e) a))
 
-some-kernel : (o : Option KernelState) → is_some o ≡ true → (k : KernelState) × (o ≡ Some k)
+pub some-kernel : (o : Option KernelState) → is_some o ≡ true → (k : KernelState) × (o ≡ Some k)
 some-kernel None e = absurd (let b : ⊥ = grind (arith, e) in b)
 some-kernel (Some k) e = (k, refl)
 

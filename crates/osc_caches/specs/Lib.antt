@@ -5,3 +5,4 @@ pub mod Stores
 pub mod Working
 pub mod Going
 pub mod KeptShown
+pub mod ShowSteps

@@ -8,6 +8,7 @@ ghost use Rattle.osc_caches.specs.Stores.{StoresLeave, HeapCallsCopy};
 ghost use Rattle.osc_caches.specs.Working.{WorkKeepsShowing};
 ghost use Rattle.osc_caches.specs.Going.{PlansGo};
 ghost use Rattle.osc_caches.specs.KeptShown.{KeptShown};
+ghost use Rattle.osc_caches.specs.ShowSteps.{StepsKeepShowing, StoresShow};
 
 /// Each step keeps the agreement of the machine's own words with the kept tables, once the pending work is
 /// done: the kernel's steps all do, and so does a guest's store that leaves them.
@@ -51,4 +52,12 @@ pub fn pages_go()
 /// while no job is pending, and of each but the one for which the call's jobs are.
 pub fn kept_shown()
     ensures { KeptShown }
+{}
+
+/// Through each step of the machine the words show of the tables of a process in a call on the heap what
+/// they may: from its plan to its last job, where a guest's store leaves that; and a store in a frame that is
+/// no table does.
+pub fn steps_keep_showing()
+    ensures steps { StepsKeepShowing }
+    ensures stores { StoresShow }
 {}
