@@ -6,3 +6,4 @@ pub mod Working
 pub mod Going
 pub mod KeptShown
 pub mod ShowSteps
+pub mod StartAgrees

@@ -9,6 +9,7 @@ ghost use Rattle.osc_caches.specs.Working.{WorkKeepsShowing};
 ghost use Rattle.osc_caches.specs.Going.{PlansGo};
 ghost use Rattle.osc_caches.specs.KeptShown.{KeptShown};
 ghost use Rattle.osc_caches.specs.ShowSteps.{StepsKeepShowing, StoresShow};
+ghost use Rattle.osc_caches.specs.StartAgrees.{StartsStand};
 
 /// Each step keeps the agreement of the machine's own words with the kept tables, once the pending work is
 /// done: the kernel's steps all do, and so does a guest's store that leaves them.
@@ -60,4 +61,10 @@ pub fn kept_shown()
 pub fn steps_keep_showing()
     ensures steps { StepsKeepShowing }
     ensures stores { StoresShow }
+{}
+
+/// The machine that opens with the image of a file has words that agree with the tables of its process, and
+/// no call is under way.
+pub fn starts_stand()
+    ensures { StartsStand }
 {}
