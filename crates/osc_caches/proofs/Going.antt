@@ -213,7 +213,7 @@ free-go batch pointer entries words regions terms found d k = seen (object_at d.
         go None g = freed-made terms d s k.parts.agrees.heap ((looks_find_objects d.space.objects k.parts.agrees.heap.granted).at pointer s f).0 (taken_lives s found g)
 
 -- ---- realloc
-after-object : (xs ys : List Reason) → first_reason (xs ++ ys) ≡ None → (first_reason xs ≡ None) × (first_reason ys ≡ None)
+pub after-object : (xs ys : List Reason) → first_reason (xs ++ ys) ≡ None → (first_reason xs ≡ None) × (first_reason ys ≡ None)
 after-object [] ys e = (refl, e)
 after-object (x ∷ xs) ys e = go x.holds refl (after-object xs ys)
   where

@@ -9,3 +9,4 @@ pub mod Going
 pub mod KeptShown
 pub mod ShowSteps
 pub mod StartAgrees
+pub mod Blocks

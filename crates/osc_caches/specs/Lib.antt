@@ -7,3 +7,4 @@ pub mod Going
 pub mod KeptShown
 pub mod ShowSteps
 pub mod StartAgrees
+pub mod Blocks

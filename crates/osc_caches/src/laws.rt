@@ -10,6 +10,7 @@ ghost use Rattle.osc_caches.specs.Going.{PlansGo};
 ghost use Rattle.osc_caches.specs.KeptShown.{KeptShown};
 ghost use Rattle.osc_caches.specs.ShowSteps.{StepsKeepShowing, StoresShow};
 ghost use Rattle.osc_caches.specs.StartAgrees.{StartsStand};
+ghost use Rattle.osc_caches.specs.Blocks.{PlansHold};
 
 /// Each step keeps the agreement of the machine's own words with the kept tables, once the pending work is
 /// done: the kernel's steps all do, and so does a guest's store that leaves them.
@@ -67,4 +68,10 @@ pub fn steps_keep_showing()
 /// no call is under way.
 pub fn starts_stand()
     ensures { StartsStand }
+{}
+
+/// After each malloc, free and realloc, until it has returned, the heap is one, and each object that waits
+/// holds its block.
+pub fn blocks_stand()
+    ensures { PlansHold }
 {}
