@@ -1,6 +1,5 @@
 -- The blocks of the objects that wait are held after each plan.
-use Rattle.std.proofs.Common.{ℕ, ◌+◌, ◌-◌, ◌≡◌, ◌≢◌, ◌<◌, ◌≤◌, ◌==◌, ◌&&◌, ◌||◌, ◌⊎◌, inl, inr, ⊎_elim, nat_lt, Bool, true, false, Option, Some, None, List, [], ◌∷◌, ◌++◌, length, slice_get, arith, refl, sym, ap, subst, ◌∙◌}
-use Rattle.std.specs.List.{list_any}
+use Rattle.std.proofs.Common.{ℕ, ◌+◌, ◌≡◌, ◌≢◌, ◌≤◌, ◌||◌, ⊎_elim, nat_lt, Bool, true, false, Option, Some, None, List, [], ◌∷◌, ◌++◌, length, arith, refl, sym, ap, subst, ◌∙◌}
 use Rattle.std.proofs.lemmas.Bool.Decides.{nat_tests}
 use Rattle.osc_word.specs.declared.calls.Answer.{Answer}
 use Rattle.osc_word.specs.declared.job_list.Job.{Job}
@@ -8,7 +7,7 @@ use Rattle.osc_word.specs.declared.settings.HeapKind.TheVariants.{Oscar}
 use Rattle.osc_class.specs.Rooms.{room_of, shadow_pages}
 use Rattle.osc_slot.specs.declared.Block.{Block}
 use Rattle.osc_slot.specs.Slots.{is_block, is_held}
-use Rattle.osc_slot.specs.Heap.{Heap, IsHeap, place, next_block, free_count, HeapAndFree}
+use Rattle.osc_slot.specs.Heap.{Heap, IsHeap, place, next_block, free_count}
 use Rattle.osc_slot.proofs.InOrder.{any-insert}
 use Rattle.osc_paging.specs.KeptTables.{need}
 use Rattle.osc_space.specs.declared.ObjectFact.{ObjectFact}

@@ -1,24 +1,23 @@
 -- In a call on the heap nothing is copied into a table.
-use Rattle.std.proofs.Common.{ℕ, ◌+◌, ◌≡◌, ◌≢◌, ◌<◌, ◌≤◌, ◌==◌, ◌⊎◌, inl, inr, ⊎_elim, Bool, true, false, Option, Some, None, List, [], ◌∷◌, slice_get, arith, refl, sym, ap, subst, ◌∙◌}
+use Rattle.std.proofs.Common.{ℕ, ◌≡◌, ◌≢◌, ◌<◌, ◌==◌, ⊎_elim, Bool, true, false, Some, None, List, [], ◌∷◌, arith, refl, sym, ap, subst, ◌∙◌}
 use Rattle.std.proofs.lemmas.Bool.Decides.{nat_tests}
 use Rattle.osc_word.specs.declared.job_list.Job.{Job}
 use Rattle.osc_word.specs.declared.job_list.Job.TheVariants.{PutWord, ZeroWords, CopyWords, CopyPart, CopyTable, ClearBox, Tell, ToOut}
 use Rattle.osc_paging.specs.KeptTables.{KeptTables}
 use Rattle.osc_paging.specs.CopyLaws.{IsNoTable}
-use Rattle.osc_space.specs.Share.{Regions, holders, shared_frames}
-use Rattle.osc_parts.specs.Frames.{among, frames_held, frames_mapped}
+use Rattle.osc_space.specs.Share.{holders, shared_frames}
+use Rattle.osc_parts.specs.Frames.{among, frames_held}
 use Rattle.osc_parts.specs.Jobs.{AllWriteWhere}
 use Rattle.osc_parts.proofs.Blocks.{no_piece}
 use Rattle.osc_parts.proofs.Counts.{among-append}
 use Rattle.osc_parts.proofs.Trading.{held_is}
-use Rattle.osc_calls.specs.Kernel.{KernelState, Process, Committed, Returning, process_at}
-use Rattle.osc_settled.specs.UnderWay.{HasAlone, made_by, ReturningFits, UnderWayFits}
+use Rattle.osc_calls.specs.Kernel.{KernelState, Process, process_at}
+use Rattle.osc_settled.specs.UnderWay.{HasAlone, ReturningFits, UnderWayFits}
 use Rattle.osc_settled.specs.KernelFits.{KernelFits}
 use Rattle.osc_settled.proofs.Commits.{lives_none}
 use Rattle.osc_settled.proofs.Following.{processes_apart}
 use Rattle.osc_showing.specs.Showing.{JobsFit}
-use Rattle.osc_caches.specs.HeapShows.{CallShows}
-use Rattle.osc_caches.specs.Stores.{AllCopyElsewhere, CopiesFit, HeapCallsCopy}
+use Rattle.osc_caches.specs.Stores.{AllCopyElsewhere, HeapCallsCopy}
 
 -- into none of the caller's
 pub own-copies : (t : KeptTables) (free : List Bool) (jobs : List Job) → JobsFit t free jobs → AllCopyElsewhere t jobs

@@ -1,5 +1,5 @@
 -- No frame of a mapped page or of a block is a table.
-use Rattle.std.proofs.Common.{ℕ, zero, suc, ◌+◌, ◌*◌, ◌/◌, ◌-◌, ◌≡◌, ◌≢◌, ◌<◌, ◌≤◌, ◌==◌, ◌&&◌, ◌||◌, ◌⊎◌, inl, inr, ⊎_elim, cond, Bool, true, false, not, is_some, Option, Some, None, List, [], ◌∷◌, ◌++◌, map, filter, find, option_map, slice_get, arith, refl, sym, ap, subst, ◌∙◌}
+use Rattle.std.proofs.Common.{ℕ, suc, ◌+◌, ◌/◌, ◌-◌, ◌≡◌, ◌≢◌, ◌<◌, ◌≤◌, ◌==◌, ◌&&◌, ◌||◌, cond, Bool, true, false, is_some, Option, Some, None, List, [], ◌∷◌, map, filter, find, option_map, slice_get, arith, refl, sym, ap, subst, ◌∙◌}
 use Rattle.std.specs.List.{list_any}
 use Rattle.std.proofs.lemmas.Bool.Decides.{nat_tests}
 use Rattle.osc_word.specs.declared.settings.HeapKind.TheVariants.{Oscar}
@@ -11,17 +11,17 @@ use Rattle.osc_slot.specs.Slots.{is_covered}
 use Rattle.osc_slot.specs.Heap.{Heap, frame_of, frame_of_found, without_block, release}
 use Rattle.osc_slot.proofs.InOrder.{find-filter}
 use Rattle.osc_paging.specs.declared.Mapped.{Mapped}
-use Rattle.osc_paging.specs.KeptTables.{KeptTables, mapping_at, piece_of}
-use Rattle.osc_paging.specs.CopyLaws.{IsNoTable, IsTable}
+use Rattle.osc_paging.specs.KeptTables.{mapping_at}
+use Rattle.osc_paging.specs.CopyLaws.{IsNoTable}
 use Rattle.osc_space.specs.declared.ObjectFact.{ObjectFact}
 use Rattle.osc_space.specs.LeafFlags.{read_write_at}
-use Rattle.osc_space.specs.Objects.{fact, has_page, is_live, is_live_page}
+use Rattle.osc_space.specs.Objects.{has_page, is_live, is_live_page}
 use Rattle.osc_space.specs.Space.{Space, Draft, Closing, Keeps, GivesBack, with_heap}
-use Rattle.osc_space.specs.Fork.{frame_of_page, image_frames, heap_frame_of, table_frame_of}
-use Rattle.osc_space.specs.Share.{shared_pages, shared_frames}
+use Rattle.osc_space.specs.Fork.{frame_of_page, image_frames, heap_frame_of}
+use Rattle.osc_space.specs.Share.{shared_frames}
 use Rattle.osc_space.specs.Finish.{give_blocks, finished}
 use Rattle.osc_space.specs.Agree.{ObjectsAgree}
-use Rattle.osc_parts.specs.Frames.{one_at, among, frames_held, frames_mapped}
+use Rattle.osc_parts.specs.Frames.{one_at, among, frames_held}
 use Rattle.osc_parts.proofs.Blocks.{page_member, no_piece}
 use Rattle.osc_parts.proofs.Counts.{among-append}
 use Rattle.osc_parts.proofs.Settling.{mapping_among}
@@ -30,7 +30,6 @@ use Rattle.osc_calls.specs.Kernel.{KernelState, Process, process_at}
 use Rattle.osc_settled.specs.Memory.{at_rest}
 use Rattle.osc_settled.specs.UnderWay.{closing_of}
 use Rattle.osc_settled.specs.KernelFits.{KernelFits}
-use Rattle.osc_settled.specs.FollowLaws.{ProcessesApart}
 use Rattle.osc_settled.proofs.Shadows.{oscar, shadows_follow}
 use Rattle.osc_settled.proofs.Following.{processes_apart}
 use Rattle.osc_caches.specs.DataFrames.{IsData, Maps, Holds, IsNobodysTable, DataIsNoTable}

@@ -1,6 +1,6 @@
 -- What plans on the heap leave of the pages of their process.
-use Rattle.std.proofs.Common.{ℕ, ◌+◌, ◌-◌, ◌/◌, ◌*◌, ◌≡◌, ◌≢◌, ◌<◌, ◌≤◌, ◌==◌, ◌&&◌, ◌||◌, ◌⊎◌, inl, inr, ⊎_elim, ltb, leb, nat_lt, nat_le, cond, Bool, true, false, is_some, Option, Some, None, List, [], ◌∷◌, ◌++◌, length, slice_get, option_map, arith, refl, sym, ap, subst, ◌∙◌}
-use Rattle.std.specs.List.{list_any, range_with_len}
+use Rattle.std.proofs.Common.{ℕ, ◌+◌, ◌-◌, ◌/◌, ◌≡◌, ◌<◌, ◌≤◌, ◌==◌, ◌||◌, ◌⊎◌, inl, inr, ⊎_elim, ltb, nat_lt, cond, Bool, true, false, is_some, Option, Some, None, List, [], ◌∷◌, ◌++◌, length, slice_get, option_map, arith, refl, sym, ap, subst, ◌∙◌}
+use Rattle.std.specs.List.{list_any}
 use Rattle.std.proofs.lemmas.Bool.Decides.{nat_tests}
 use Rattle.std.proofs.lemmas.List.FromFn.{length-map-range_with_len}
 use Rattle.osc_word.specs.declared.calls.Answer.{Answer}
@@ -15,18 +15,16 @@ use Rattle.osc_slot.specs.declared.HeapPage.{HeapPage}
 use Rattle.osc_slot.specs.Slots.{is_covered, is_on}
 use Rattle.osc_slot.specs.Heap.{Heap, frame_of, place, next_block, free_count, HeapAndFree}
 use Rattle.osc_slot.proofs.HeldBlocks.{same_room}
-use Rattle.osc_paging.specs.KeptTables.{KeptTables, mapping_at, need}
-use Rattle.osc_paging.specs.TableChanges.{Changed, map_pages}
+use Rattle.osc_paging.specs.KeptTables.{mapping_at, need}
 use Rattle.osc_space.specs.declared.ObjectFact.{ObjectFact}
-use Rattle.osc_space.specs.LeafFlags.{read_write_at}
-use Rattle.osc_space.specs.Objects.{Seen, mark, next_page, fact, has_page, is_live, object_at, grant, granted_at, kill, killed}
-use Rattle.osc_space.specs.Space.{Space, Draft, Terms, Outcome, Closing, Keeps, GivesBack, Reason, first_reason, unless, unchanged, push}
+use Rattle.osc_space.specs.Objects.{Seen, mark, next_page, fact, has_page, is_live, object_at, grant, kill, killed}
+use Rattle.osc_space.specs.Space.{Space, Draft, Terms, Closing, Reason, first_reason, unless, unchanged, push}
 use Rattle.osc_space.specs.Header.{Found, object_reasons, block_of}
 use Rattle.osc_space.specs.Share.{Regions}
 use Rattle.osc_space.specs.BlockWords.{block_mappings}
 use Rattle.osc_space.specs.Malloc.{malloc_reasons, block_need, fill_block, grant_object, map_shadows, malloc_in, malloc_plan}
-use Rattle.osc_space.specs.Free.{dead_leaves, unmap_all, unmap_object, reclaim_all, waiting_facts, kill_object, flush, flush_where, closing_where, is_full, let_wait, freed, free_seen, free_plan}
-use Rattle.osc_space.specs.Realloc.{stays, frames_for, replace_object, bytes_jobs, keep_bytes, block_for, realloc_reasons, realloc_made, realloc_seen, realloc_plan}
+use Rattle.osc_space.specs.Free.{dead_leaves, unmap_object, waiting_facts, kill_object, flush_where, closing_where, is_full, let_wait, freed, free_seen, free_plan}
+use Rattle.osc_space.specs.Realloc.{stays, frames_for, replace_object, realloc_reasons, realloc_made, realloc_seen, realloc_plan}
 use Rattle.osc_space.specs.Agree.{ObjectsAgree, is_waiting}
 use Rattle.osc_space.proofs.ObjectLawProofs.{looks_find_objects}
 use Rattle.osc_parts.specs.Settled.{tables_of, Settled}
@@ -39,7 +37,7 @@ use Rattle.osc_parts.proofs.ReallocParts.{at_place}
 use Rattle.osc_parts.proofs.FreeReturn.{taken_lives}
 use Rattle.osc_showing.proofs.Growing.{maps-other}
 use Rattle.osc_showing.proofs.Plans.{no-mapping, past-mark}
-use Rattle.osc_caches.specs.Going.{replaces, is_going, GoingPage, PagesGo, PlansGo}
+use Rattle.osc_caches.specs.Going.{replaces, GoingPage, PagesGo, PlansGo}
 use Rattle.osc_caches.proofs.DataFrames.{some-frame, in-range}
 
 -- ---- a plan that changes nothing

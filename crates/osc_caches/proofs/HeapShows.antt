@@ -1,5 +1,5 @@
 -- What the words show of the tables of a process in a call on the heap, from the plan on and job by job.
-use Rattle.std.proofs.Common.{ℕ, ◌+◌, ◌*◌, ◌≡◌, ◌≢◌, ◌<◌, ◌≤◌, ◌==◌, ◌⊎◌, inl, inr, ⊎_elim, cond, Bool, true, false, if◌then◌else◌, Option, Some, None, List, [], ◌∷◌, ◌++◌, drop, length, slice_get, slice_set, arith, refl, sym, ap, subst, ◌∙◌}
+use Rattle.std.proofs.Common.{ℕ, ◌+◌, ◌*◌, ◌≡◌, ◌≢◌, ◌<◌, ◌≤◌, ◌==◌, ◌⊎◌, ⊎_elim, cond, Bool, true, false, Option, Some, None, List, ◌∷◌, drop, length, arith, refl, sym, ap, subst, ◌∙◌}
 use Rattle.std.proofs.lemmas.Bool.Decides.{nat_tests}
 use Rattle.osc_word.specs.declared.calls.Answer.TheVariants as answers
 use Rattle.osc_word.specs.declared.calls.Call.{Call}
@@ -10,36 +10,32 @@ use Rattle.osc_word.specs.declared.settings.HeapKind.{HeapKind}
 use Rattle.osc_word.specs.declared.settings.HeapKind.TheVariants.{Oscar}
 use Rattle.osc_sv39.specs.Walk.{word_at}
 use Rattle.osc_paging.specs.KeptTables.{KeptTables, piece_of}
-use Rattle.osc_paging.specs.JobWords.{zeroed, words_done, words_after}
+use Rattle.osc_paging.specs.JobWords.{words_done, words_after}
 use Rattle.osc_paging.specs.Agree.{Agrees}
 use Rattle.osc_paging.specs.CopyLaws.{IsNoTable, IsTable, WritesElsewhere}
 use Rattle.osc_paging.specs.OtherLaws.{IsAnyTable}
 use Rattle.osc_paging.proofs.WordLists.{zeroed_at, length-zeroed}
 use Rattle.osc_paging.proofs.Elsewhere.{length-words_done, job_elsewhere}
 use Rattle.osc_space.specs.Header.{Found}
-use Rattle.osc_space.specs.Space.{Draft, Outcome, unchanged}
+use Rattle.osc_space.specs.Space.{Outcome, unchanged}
 use Rattle.osc_parts.specs.Settled.{Settled}
-use Rattle.osc_parts.specs.FreeLaws.{HasTerms}
-use Rattle.osc_parts.specs.PlanFits.{PlanFits}
-use Rattle.osc_calls.specs.Kernel.{KernelState, Process, Calling, UnderWay, Waiting, process_at}
+use Rattle.osc_calls.specs.Kernel.{KernelState, Process, Calling, process_at}
 use Rattle.osc_calls.specs.Requests.{meant}
 use Rattle.osc_calls.specs.Refusals.{draft_of}
 use Rattle.osc_calls.specs.Planned.{outcome_planned}
 use Rattle.osc_calls.specs.HeapPlans.{terms_of, malloc_by, free_by, free_of, realloc_by}
-use Rattle.osc_calls.specs.Plan.{plan_meant, plan_of, committed, commit_shown, plan_by, plan_waiting, plan}
+use Rattle.osc_calls.specs.Plan.{plan_meant, committed, plan_by, plan_waiting, plan}
 use Rattle.osc_calls.specs.JobDone.{job_done, entries}
 use Rattle.osc_settled.specs.Records.{is_living}
-use Rattle.osc_settled.specs.KernelFits.{KernelFits}
 use Rattle.osc_settled.proofs.Lists.{get-put_same}
 use Rattle.osc_settled.proofs.Commits.{lives_none}
 use Rattle.osc_settled.proofs.Outcomes.{Asks, asks, caller_lives}
 use Rattle.osc_settled.proofs.Answering.{settled, has_terms, malloc_fits, null_fits, realloc_fits}
-use Rattle.osc_showing.specs.Showing.{JobFits, IsWhole, IsQuiet, Shows, PutFits}
+use Rattle.osc_showing.specs.Showing.{IsWhole, IsQuiet, Shows}
 use Rattle.osc_showing.specs.PlanTurns.{PlanTurns}
 use Rattle.osc_showing.proofs.Plans.{unchanged-turns, malloc-turns, free-turns}
 use Rattle.osc_showing.proofs.ReallocPlans.{realloc-turns}
 use Rattle.osc_showing.proofs.Shown.{turns-show, same-shows, quiet-shows, clear-shows, put-shows, zero-shows}
-use Rattle.osc_showing.proofs.Folds.{apart-frames}
 use Rattle.osc_caches.specs.HeapShows.{is_heap_call, cleared_in, CallShows, HeapPlansShow, HeapJobsShow}
 
 -- ---- the plan

@@ -1,8 +1,7 @@
 -- Tables that no pending job writes show what is kept.
-use Rattle.std.proofs.Common.{ℕ, zero, suc, ◌+◌, ◌*◌, ◌≡◌, ◌≢◌, ◌<◌, ◌≤◌, ◌==◌, ◌⊎◌, inl, inr, ⊎_elim, Bool, true, false, Option, Some, None, List, [], ◌∷◌, ◌++◌, drop, length, map, slice_get, arith, refl, sym, ap, subst, ◌∙◌}
+use Rattle.std.proofs.Common.{ℕ, zero, suc, ◌+◌, ◌≡◌, ◌≢◌, ◌<◌, ◌≤◌, ⊎_elim, Bool, Option, Some, None, List, [], ◌∷◌, ◌++◌, drop, map, slice_get, arith, refl, sym, ap, subst, ◌∙◌}
 use Rattle.std.specs.List.{range_with_len}
 use Rattle.std.specs.Option.{option_to_list}
-use Rattle.std.proofs.lemmas.Bool.Decides.{nat_tests}
 use Rattle.osc_word.specs.declared.job_list.WordAt.{WordAt}
 use Rattle.osc_word.specs.declared.job_list.Job.{Job}
 use Rattle.osc_word.specs.declared.job_list.Job.TheVariants.{PutWord, ZeroWords, CopyWords, CopyPart, CopyTable, ClearBox, Tell, ToOut}
@@ -23,9 +22,9 @@ use Rattle.osc_calls.specs.JobDone.{entries}
 use Rattle.osc_settled.specs.UnderWay.{HasAlone, made_by, ReturningFits, UnderWayFits}
 use Rattle.osc_settled.specs.KernelFits.{KernelFits}
 use Rattle.osc_machine.specs.Parts.{CallPlace, Outside, TakingBoxes, FirstWord, SecondWord, Working, GivingBoxes, Returning as AtReturn, HartState, State}
-use Rattle.osc_machine.specs.Laws.{kernels, kernels_held, HasKernel}
-use Rattle.osc_safe.specs.Standing.{WorksOn, StandsAt, InHand, Stands}
-use Rattle.osc_caches.specs.Words.{words_then, words_in_end, AllAgree, WordsAgree}
+use Rattle.osc_machine.specs.Laws.{kernels_held, HasKernel}
+use Rattle.osc_safe.specs.Standing.{StandsAt, Stands}
+use Rattle.osc_caches.specs.Words.{words_then, words_in_end, WordsAgree}
 use Rattle.osc_caches.specs.KeptShown.{ShowsKept, KeptShown}
 use Rattle.osc_caches.proofs.Copies.{alone-no-table}
 

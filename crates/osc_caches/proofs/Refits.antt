@@ -1,17 +1,16 @@
 -- A kernel that fits with some words fits with all that agree with its tables.
-use Rattle.std.proofs.Common.{ℕ, ◌*◌, ◌≡◌, false, Option, Some, None, List, [], ◌∷◌, length, drop, slice_get, arith, refl, sym, ap, subst, ◌∙◌}
+use Rattle.std.proofs.Common.{ℕ, ◌≡◌, false, Option, Some, None, List, [], ◌∷◌, drop, slice_get, arith, refl, sym, ap, ◌∙◌}
 use Rattle.std.specs.Option.{option_map_or}
 use Rattle.osc_word.specs.declared.job_list.Job.{Job}
 use Rattle.osc_paging.specs.JobWords.{words_done, words_after}
-use Rattle.osc_paging.specs.Agree.{Agrees}
 use Rattle.osc_paging.proofs.Elsewhere.{length-words_after}
-use Rattle.osc_calls.specs.Kernel.{KernelState, Process, process_at, next_job}
+use Rattle.osc_calls.specs.Kernel.{KernelState, next_job}
 use Rattle.osc_calls.specs.Moves.{Move, Put, Copy, CopyLow, ChangeBox, Out, moves_of}
 use Rattle.osc_calls.specs.MoveLaws.{words_after_moves}
 use Rattle.osc_calls.specs.JobDone.{entries}
 use Rattle.osc_calls.proofs.MoveLawProofs.{moves_do_job}
 use Rattle.osc_settled.specs.KernelFits.{KernelFits}
-use Rattle.osc_machine.specs.Parts.{CallPlace, Outside, Working, GivingBoxes, Returning}
+use Rattle.osc_machine.specs.Parts.{Working, GivingBoxes, Returning}
 use Rattle.osc_machine.specs.Turns.{place_on, first_held, return_of}
 use Rattle.osc_paging.specs.Boxes.{BoxState}
 use Rattle.osc_caches.specs.Words.{words_then, words_in_end, AllAgree}

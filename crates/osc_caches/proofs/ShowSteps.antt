@@ -1,5 +1,5 @@
 -- Each step keeps what is shown.
-use Rattle.std.proofs.Common.{ℕ, ◌≡◌, ◌≢◌, ◌<◌, ◌⊎◌, inl, inr, ⊎_elim, ◌==◌, Bool, true, false, not, cond, Option, Some, None, List, [], ◌∷◌, set, slice_get, slice_set, drop, length, is_some, arith, refl, sym, ap, subst, ◌∙◌}
+use Rattle.std.proofs.Common.{ℕ, ◌≡◌, ◌<◌, ⊎_elim, Bool, true, false, not, cond, Option, Some, None, List, set, slice_get, slice_set, length, arith, refl, sym, ap, subst, ◌∙◌}
 use Rattle.std.proofs.lemmas.Bool.Decides.{nat_tests}
 use Rattle.osc_word.specs.declared.calls.Request.{Request}
 use Rattle.osc_word.specs.declared.job_list.WordAt.{WordAt}
@@ -11,7 +11,7 @@ use Rattle.osc_space.specs.Header.{Found}
 use Rattle.osc_calls.specs.declared.Begun.{Begun}
 use Rattle.osc_calls.specs.declared.Begun.TheVariants as begun
 use Rattle.osc_calls.specs.declared.HartRecord.TheVariants as records
-use Rattle.osc_calls.specs.Kernel.{KernelState, Process, Calling, Committed, UnderWay, Quiet, Retrying, Leaving, Waiting, Returning as CallReturning, process_at, has_journal_room}
+use Rattle.osc_calls.specs.Kernel.{KernelState, Process, Calling, Committed, Quiet, Retrying, Leaving, Waiting, Returning as CallReturning, process_at, has_journal_room}
 use Rattle.osc_calls.specs.Requests.{calling_of, meant, is_ready}
 use Rattle.osc_calls.specs.Begin.{no_words, first_step, begun_in, begin_as, begin_call, begin}
 use Rattle.osc_calls.specs.Plan.{plan, plan_by, plan_waiting}
@@ -20,23 +20,23 @@ use Rattle.osc_calls.specs.Moves.{Move}
 use Rattle.osc_settled.specs.UnderWay.{ReturningFits, UnderWayFits}
 use Rattle.osc_settled.specs.KernelFits.{KernelFits}
 use Rattle.osc_settled.proofs.Commits.{lives_none}
-use Rattle.osc_settled.proofs.Beginning.{AtRest, at_rest, asks_as}
+use Rattle.osc_settled.proofs.Beginning.{at_rest, asks_as}
 use Rattle.osc_machine.specs.declared.HartAsk.{HartAsk}
 use Rattle.osc_machine.specs.declared.HartAsk.TheVariants as does
-use Rattle.osc_machine.specs.Parts.{CallPlace, Outside, TakingBoxes, FirstWord, SecondWord, Working, GivingBoxes, Returning, HartState, State}
-use Rattle.osc_machine.specs.Turns.{HartTold, Box, Kernel, Word, Gate as ToldGate, OldVersion, Done, Turn, MovesLeft, StillAt, AllDone, moves_left, move_ask, place_begun, place_on, hart_ask, hart_told, handed_box, handed_kernel, box_given, found_words}
+use Rattle.osc_machine.specs.Parts.{CallPlace, Outside, TakingBoxes, FirstWord, SecondWord, Working, GivingBoxes, HartState, State}
+use Rattle.osc_machine.specs.Turns.{HartTold, Box, Kernel, Word, Gate as ToldGate, OldVersion, Done, Turn, MovesLeft, StillAt, AllDone, moves_left, move_ask, place_begun, place_on, hart_told, handed_box, handed_kernel, box_given, found_words}
 use Rattle.osc_machine.specs.Step.{Stepped, with_box, with_gate, step}
 use Rattle.osc_machine.specs.Laws.{is_in_call, HasKernel}
 use Rattle.osc_machine.specs.Did.{Turned, Unmoved, InGuest, TakesKernel, TakesBox, TakesLastBox, FindsFirst, FindsSecond, Works, EndsJob, GivesBox, GivesKernel, word_told, Asks, Did, Stayed, TookBox, GaveBox, ChangedBox, Loaded, Stored, TookGate, FoundOldVersion, OpenedGate, TookKernel, GaveKernel}
 use Rattle.osc_machine.proofs.RowLaws.{turns_by_row, steps_by_row}
 use Rattle.osc_safe.specs.Holding.{Holds}
-use Rattle.osc_safe.specs.Standing.{FitsSome, IsFor, Waits, IsCommitted, StandsAt, AtHome, InHand, HandStands, Stands}
+use Rattle.osc_safe.specs.Standing.{FitsSome, IsCommitted, AtHome, InHand, HandStands, Stands}
 use Rattle.osc_safe.proofs.KernelRows.{home-is, hand-is-one}
 use Rattle.osc_safe.proofs.StandingSteps.{each-written}
-use Rattle.osc_caches.specs.Words.{words_then, words_in_end, Does, AllAgree, WordsAgree}
+use Rattle.osc_caches.specs.Words.{words_in_end, Does, AllAgree, WordsAgree}
 use Rattle.osc_caches.specs.HeapShows.{is_heap_call, CallShows}
 use Rattle.osc_caches.specs.DataFrames.{IsNobodysTable}
-use Rattle.osc_caches.specs.Working.{WorkShows, ShowsAt}
+use Rattle.osc_caches.specs.Working.{ShowsAt}
 use Rattle.osc_caches.specs.ShowSteps.{HandShows, AllShow, IsOscar, StoreShows, StepsKeepShowing, StoresShow}
 use Rattle.osc_caches.proofs.Refits.{refit}
 use Rattle.osc_caches.proofs.HeapShows.{heap_plans_show}

@@ -1,20 +1,17 @@
 -- The machine before its first step.
-use Rattle.std.proofs.Common.{ℕ, ◌+◌, ◌≡◌, ◌≤◌, false, Option, Some, None, Ok, List, slice_get, arith, refl, sym, ap, subst, ◌∙◌}
+use Rattle.std.proofs.Common.{ℕ, ◌≡◌, Some, slice_get, arith, subst}
 use Rattle.osc_word.specs.declared.orders.Start.{Start}
 use Rattle.osc_word.specs.declared.settings.Config.{Config}
-use Rattle.osc_word.specs.Limits.{first_fault}
 use Rattle.osc_paging.specs.JobWords.{words_after}
 use Rattle.osc_image.specs.Image.{Image}
 use Rattle.osc_calls.specs.Kernel.{KernelState}
 use Rattle.osc_calls.specs.JobDone.{entries}
 use Rattle.osc_calls.specs.Open.{open_kernel, open_words, open_start}
-use Rattle.osc_settled.specs.KernelFits.{KernelFits}
 use Rattle.osc_settled.proofs.ImageStart.{images_start}
-use Rattle.osc_machine.specs.Parts.{HartState, State}
+use Rattle.osc_machine.specs.Parts.{HartState}
 use Rattle.osc_machine.specs.Start.{first_hart, started, start_of}
 use Rattle.osc_safe.proofs.HoldingRuns.{each-first}
-use Rattle.osc_caches.specs.Words.{AllAgree, WordsAgree}
-use Rattle.osc_caches.specs.ShowSteps.{AllShow}
+use Rattle.osc_caches.specs.Words.{AllAgree}
 use Rattle.osc_caches.specs.StartAgrees.{WordsStand, StartsStand}
 use Rattle.osc_caches.proofs.Refits.{all-agree}
 

@@ -1,7 +1,6 @@
 -- A store in a frame that is no table leaves the agreement.
-use Rattle.std.proofs.Common.{ℕ, zero, suc, ◌+◌, ◌*◌, ◌≡◌, ◌<◌, ◌≤◌, ◌==◌, ◌⊎◌, inl, inr, ltb, cond, Bool, true, false, Option, Some, None, List, [], ◌∷◌, ◌++◌, drop, length, map, set, get_or, slice_get, arith, refl, sym, ap, subst, ◌∙◌}
+use Rattle.std.proofs.Common.{ℕ, zero, suc, ◌+◌, ◌*◌, ◌≡◌, ◌<◌, ◌≤◌, ◌==◌, inl, inr, ltb, cond, Bool, true, false, Option, Some, None, List, [], ◌∷◌, ◌++◌, drop, length, map, set, get_or, slice_get, arith, refl, sym, ap, subst, ◌∙◌}
 use Rattle.std.specs.List.{range_with_len}
-use Rattle.std.proofs.lemmas.Bool.Decides.{nat_tests}
 use Rattle.std.proofs.lemmas.List.{length-set}
 use Rattle.osc_word.specs.declared.job_list.WordAt.{WordAt}
 use Rattle.osc_word.specs.declared.job_list.Job.{Job}
@@ -19,11 +18,10 @@ use Rattle.osc_calls.specs.Moves.{Move, after, low_bytes, moves_of}
 use Rattle.osc_calls.specs.Moves as move
 use Rattle.osc_calls.specs.MoveLaws.{words_moved, words_after_moves}
 use Rattle.osc_calls.specs.JobDone.{entries}
-use Rattle.osc_machine.specs.Parts.{CallPlace, Outside, TakingBoxes, FirstWord, SecondWord, Working, GivingBoxes, Returning, HartState, State}
-use Rattle.osc_machine.specs.Laws.{HasKernel}
-use Rattle.osc_safe.specs.Standing.{WorksOn, StandsAt, InHand, Stands}
+use Rattle.osc_machine.specs.Parts.{CallPlace, Outside, TakingBoxes, FirstWord, SecondWord, Working, GivingBoxes, Returning}
+use Rattle.osc_safe.specs.Standing.{StandsAt}
 use Rattle.osc_safe.proofs.KernelRows.{home-is, hand-is-one}
-use Rattle.osc_caches.specs.Words.{words_then, words_in_end, AllAgree, WordsAgree}
+use Rattle.osc_caches.specs.Words.{words_then, words_in_end, AllAgree}
 use Rattle.osc_caches.specs.DataFrames.{IsNobodysTable}
 use Rattle.osc_caches.specs.Stores.{CopiesElsewhere, AllCopyElsewhere, CopiesFit, StoresLeave}
 

@@ -8,7 +8,7 @@ use Rattle.osc_paging.specs.JobWords.{words_after}
 use Rattle.osc_paging.proofs.WordLists.{slice_get-set}
 use Rattle.osc_calls.specs.declared.Begun.{Begun}
 use Rattle.osc_calls.specs.declared.Begun.TheVariants as begun
-use Rattle.osc_calls.specs.Kernel.{KernelState, Calling, UnderWay, Quiet, Waiting, Returning as CallReturning}
+use Rattle.osc_calls.specs.Kernel.{KernelState, Calling, Quiet, Waiting, Returning as CallReturning}
 use Rattle.osc_calls.specs.Begin.{begin}
 use Rattle.osc_calls.specs.Plan.{plan}
 use Rattle.osc_calls.specs.JobDone.{job_done, entries}
@@ -17,7 +17,6 @@ use Rattle.osc_calls.specs.Moves as move
 use Rattle.osc_calls.specs.MoveLaws.{words_after_moves}
 use Rattle.osc_calls.specs.Finish.{finish}
 use Rattle.osc_space.specs.Header.{Found}
-use Rattle.osc_settled.specs.KernelFits.{KernelFits}
 use Rattle.osc_settled.proofs.Plans.{plans_keep}
 use Rattle.osc_settled.proofs.Beginning.{begins_keep}
 use Rattle.osc_settled.proofs.Returning.{finish_keeps}
@@ -31,7 +30,7 @@ use Rattle.osc_machine.specs.Did.{Turned, Unmoved, InGuest, TakesKernel, TakesBo
 use Rattle.osc_machine.proofs.RowLaws.{turns_by_row, steps_by_row}
 use Rattle.osc_machine.proofs.KernelLaws.{returns_of}
 use Rattle.osc_safe.specs.Holding.{Holds}
-use Rattle.osc_safe.specs.Standing.{FitsSome, IsFor, IsCommitted, StandsAt, AtHome, InHand, HandStands, Stands}
+use Rattle.osc_safe.specs.Standing.{FitsSome, IsFor, IsCommitted, AtHome, InHand, HandStands, Stands}
 use Rattle.osc_safe.proofs.KernelRows.{home-is, hand-is-one}
 use Rattle.osc_safe.proofs.StandingSteps.{each-written}
 use Rattle.osc_caches.specs.Words.{words_then, words_in_end, Does, AllAgree, WordsAgree, StoreLeaves, StepsKeepWords}

@@ -1,5 +1,5 @@
 -- What the words show while a job is under way.
-use Rattle.std.proofs.Common.{ℕ, zero, suc, ◌+◌, ◌*◌, ◌≡◌, ◌≢◌, ◌<◌, ◌≤◌, ◌==◌, ◌||◌, ◌⊎◌, inl, inr, ⊎_elim, ltb, cond, Bool, true, false, Option, Some, None, List, [], ◌∷◌, ◌++◌, drop, length, map, set, get_or, slice_get, arith, refl, sym, ap, subst, ◌∙◌}
+use Rattle.std.proofs.Common.{ℕ, zero, suc, ◌+◌, ◌*◌, ◌≡◌, ◌<◌, ◌≤◌, ◌==◌, ◌||◌, Bool, true, false, Option, Some, None, List, [], ◌∷◌, ◌++◌, drop, map, slice_get, arith, refl, sym, ap, subst, ◌∙◌}
 use Rattle.std.specs.List.{range_with_len}
 use Rattle.std.specs.Option.{option_map_or}
 use Rattle.std.proofs.lemmas.Bool.Decides.{nat_tests}
@@ -10,9 +10,7 @@ use Rattle.osc_word.specs.declared.job_list.Job.TheVariants.{PutWord, ZeroWords,
 use Rattle.osc_sv39.specs.Walk.{word_at, put_word}
 use Rattle.osc_paging.specs.Boxes.{BoxState}
 use Rattle.osc_paging.specs.KeptTables.{KeptTables}
-use Rattle.osc_paging.specs.JobWords.{words_done}
 use Rattle.osc_paging.specs.CopyLaws.{IsNoTable}
-use Rattle.osc_paging.specs.OtherLaws.{IsAnyTable}
 use Rattle.osc_paging.proofs.WordLists.{get_or-set}
 use Rattle.osc_calls.specs.Kernel.{KernelState, Process, process_at, next_job}
 use Rattle.osc_calls.specs.Moves.{Move, after, low_bytes, moves_of}
@@ -20,18 +18,17 @@ use Rattle.osc_calls.specs.Moves as move
 use Rattle.osc_calls.specs.JobDone.{job_done, entries}
 use Rattle.osc_calls.proofs.MoveLawProofs.{moves_do_job}
 use Rattle.osc_machine.specs.Parts.{CallPlace, Outside, TakingBoxes, FirstWord, SecondWord, Working, GivingBoxes, Returning}
-use Rattle.osc_machine.specs.Turns.{place_on, first_held, return_of, move_ask, MovesLeft, StillAt, AllDone, moves_left, rest_of}
+use Rattle.osc_machine.specs.Turns.{first_held, return_of, move_ask, StillAt, AllDone, moves_left}
 use Rattle.osc_safe.specs.Standing.{WorksOn, StandsAt}
 use Rattle.osc_showing.specs.Showing.{closes, is_closed, JobFits, JobsFit, Shows}
 use Rattle.osc_showing.proofs.Shown.{same-shows}
 use Rattle.osc_caches.specs.Words.{words_then, Does}
 use Rattle.osc_caches.specs.HeapShows.{cleared_in, CallShows}
-use Rattle.osc_caches.specs.Stores.{AllCopyElsewhere}
 use Rattle.osc_caches.specs.Working.{without_job, WorkShows, ShowsAt, WorkKeepsShowing}
 use Rattle.osc_caches.proofs.Refits.{unread}
 use Rattle.osc_caches.proofs.WordSteps.{InEnd, moved}
 use Rattle.osc_caches.proofs.HeapShows.{job-shows}
-use Rattle.osc_caches.proofs.Stores.{SameOn, MoveElsewhere, AllMoveElsewhere, stored-same, same-then, job-moves, left-moves, first-copies}
+use Rattle.osc_caches.proofs.Stores.{SameOn, AllMoveElsewhere, stored-same, same-then, job-moves, left-moves, first-copies}
 use Rattle.osc_caches.proofs.Copies.{own-copies}
 
 -- ---- where the call goes on

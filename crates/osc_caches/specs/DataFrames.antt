@@ -1,6 +1,6 @@
 -- The frames that a process's pages may reach are no tables, neither its own nor another's. This project's
 -- own.
-use Rattle.std.specs.Prelude.{ℕ, ◌≡◌, Bool, Some, None, List}
+use Rattle.std.specs.Prelude.{ℕ, ◌≡◌, Some, None, List}
 use Rattle.osc_word.specs.declared.settings.HeapKind.TheVariants.{Oscar}
 use Rattle.osc_sv39.specs.declared.entries.Mapping.{Mapping}
 use Rattle.osc_slot.specs.Heap.{frame_of}

@@ -17,7 +17,6 @@ use Rattle.osc_space.specs.Free.{free_plan}
 use Rattle.osc_space.specs.Realloc.{realloc_plan}
 use Rattle.osc_space.specs.Agree.{is_waiting}
 use Rattle.osc_parts.specs.Settled.{Settled}
-use Rattle.osc_parts.specs.FreeLaws.{HasTerms}
 
 -- the answer tells that this object was replaced
 abbrev pub replaces : Answer → ℕ → Bool

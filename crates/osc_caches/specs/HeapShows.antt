@@ -1,5 +1,5 @@
 -- What the words show of the tables of a process that is in a call on the heap. This project's own.
-use Rattle.std.specs.Prelude.{ℕ, ◌≡◌, Bool, true, false, Some, List, [], ◌∷◌}
+use Rattle.std.specs.Prelude.{ℕ, ◌≡◌, Bool, true, false, Some, List, ◌∷◌}
 use Rattle.osc_word.specs.declared.calls.Call.{Call}
 use Rattle.osc_word.specs.declared.calls.Call.TheVariants.{Malloc, Free, Realloc}
 use Rattle.osc_word.specs.declared.job_list.Job.{Job}

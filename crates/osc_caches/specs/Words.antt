@@ -1,6 +1,6 @@
 -- The machine's own words: once the moves and the jobs that are left are done, they are those of the tables
 -- that the kernel keeps. This project's own.
-use Rattle.std.specs.Prelude.{ℕ, ◌*◌, ◌≡◌, Option, Some, None, List, [], ◌∷◌, length, slice_get, drop}
+use Rattle.std.specs.Prelude.{ℕ, ◌*◌, ◌≡◌, Option, Some, None, List, ◌∷◌, length, slice_get, drop}
 use Rattle.osc_word.specs.declared.job_list.WordAt.{WordAt}
 use Rattle.osc_sv39.specs.Walk.{word_at, put_word}
 use Rattle.osc_paging.specs.JobWords.{words_after}

@@ -1,6 +1,6 @@
 -- What the words show of the tables of a process in a call on the heap while a job is under way, move by move.
 -- This project's own.
-use Rattle.std.specs.Prelude.{ℕ, ◌≡◌, ◌<◌, Option, Some, None, List, drop}
+use Rattle.std.specs.Prelude.{ℕ, ◌≡◌, ◌<◌, Option, Some, List, drop}
 use Rattle.osc_sv39.specs.Walk.{put_word}
 use Rattle.osc_paging.specs.Boxes.{BoxState}
 use Rattle.osc_paging.specs.CopyLaws.{IsNoTable}

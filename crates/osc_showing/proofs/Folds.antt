@@ -1,5 +1,5 @@
 -- Pending jobs, and more of them.
-use Rattle.std.proofs.Common.{ℕ, zero, suc, ◌+◌, ◌*◌, ◌≡◌, ◌≢◌, ◌<◌, ◌==◌, ◌&&◌, ◌||◌, ◌⊎◌, inl, inr, ⊎_elim, Bool, true, false, Option, Some, None, List, [], ◌∷◌, ◌++◌, slice_get, length, arith, refl, sym, ap, subst, ◌∙◌}
+use Rattle.std.proofs.Common.{ℕ, zero, suc, ◌+◌, ◌*◌, ◌≡◌, ◌≢◌, ◌<◌, ◌==◌, ◌||◌, ◌⊎◌, inl, inr, ⊎_elim, Bool, true, false, Option, Some, None, List, [], ◌∷◌, ◌++◌, slice_get, arith, refl, sym, subst, ◌∙◌}
 use Rattle.std.specs.List.{list_any}
 use Rattle.std.proofs.lemmas.Bool.Decides.{nat_tests}
 use Rattle.std.proofs.lemmas.Option.{slice_get_within}
@@ -11,12 +11,11 @@ use Rattle.osc_sv39.specs.Entries.{entry_of, word_of}
 use Rattle.osc_sv39.proofs.EntriesBack.{tables_read_back}
 use Rattle.osc_paging.specs.declared.Piece.{Piece}
 use Rattle.osc_paging.specs.KeptTables.{KeptTables, piece_of, frame_of, mapping_at, page_entry, link_entry, word_in, kept_word}
-use Rattle.osc_paging.specs.Agree.{Agrees, ReadsAsLeaf}
-use Rattle.osc_paging.specs.CopyLaws.{IsNoTable, IsTable, KeepsTaken}
+use Rattle.osc_paging.specs.CopyLaws.{IsNoTable, IsTable}
 use Rattle.osc_paging.specs.OtherLaws.{IsAnyTable}
 use Rattle.osc_paging.proofs.TableLists.{apart-found}
 use Rattle.osc_parts.specs.Jobs.{AllWriteWhere}
-use Rattle.osc_showing.specs.Showing.{closes, is_closed, is_wiped, clears, AllDue, PutFits, IsWhole, JobFits, JobsFit, Tidy, IsPlain}
+use Rattle.osc_showing.specs.Showing.{is_closed, is_wiped, clears, PutFits, IsWhole, JobsFit, Tidy, IsPlain}
 
 -- ---- folds over more jobs
 pub closed-append : (xs ys : List Job) (f : ℕ) → is_closed (xs ++ ys) f ≡ (is_closed xs f || is_closed ys f)

@@ -1,30 +1,28 @@
 -- Tables that are linked, pages that are mapped, and jobs in frames that are no tables.
-use Rattle.std.proofs.Common.{ℕ, zero, suc, ◌+◌, ◌*◌, ◌/◌, ◌%◌, ◌≡◌, ◌≢◌, ◌<◌, ◌≤◌, ◌==◌, ◌&&◌, ◌||◌, ◌⊎◌, inl, inr, ⊎_elim, cond, Bool, true, false, Option, Some, None, List, [], ◌∷◌, ◌++◌, set, length, slice_get, slice_set, position, map, arith, refl, sym, ap, subst, ◌∙◌}
+use Rattle.std.proofs.Common.{ℕ, zero, suc, ◌+◌, ◌*◌, ◌/◌, ◌%◌, ◌≡◌, ◌≢◌, ◌<◌, ◌≤◌, ◌==◌, ◌&&◌, ◌||◌, ◌⊎◌, inl, inr, ⊎_elim, cond, Bool, true, false, Option, Some, None, List, [], ◌∷◌, ◌++◌, set, length, slice_get, position, map, arith, refl, sym, ap, subst, ◌∙◌}
 use Rattle.std.specs.List.{list_any, range_with_len}
 use Rattle.std.proofs.lemmas.Bool.Decides.{nat_tests}
 use Rattle.std.proofs.lemmas.List.{length-set}
 use Rattle.osc_word.specs.declared.job_list.Job.{Job}
 use Rattle.osc_word.specs.declared.job_list.Job.TheVariants.{ClearBox}
 use Rattle.osc_sv39.specs.declared.entries.Mapping.{Mapping}
-use Rattle.osc_sv39.specs.declared.entries.PteEntry.TheVariants.{Absent, Table, Leaf}
+use Rattle.osc_sv39.specs.declared.entries.PteEntry.TheVariants.{Table, Leaf}
 use Rattle.osc_sv39.specs.Entries.{entry_of, word_of}
 use Rattle.osc_sv39.specs.Walk.{piece}
-use Rattle.osc_sv39.proofs.EntriesBack.{tables_read_back}
 use Rattle.osc_paging.specs.declared.Piece.{Piece}
-use Rattle.osc_paging.specs.declared.Mapped.{Mapped}
-use Rattle.osc_paging.specs.KeptTables.{KeptTables, piece_of, frame_of, mapping_at, page_entry, link_entry, is_piece, word_in, kept_word}
+use Rattle.osc_paging.specs.KeptTables.{KeptTables, piece_of, frame_of, mapping_at, page_entry, link_entry, word_in, kept_word}
 use Rattle.osc_paging.specs.TableChanges.{Changed, put_job, zero_job, with_page, with_table, table_frame, linked, link, link_all, leaf_put, put_leaf, map_page, map_pages}
-use Rattle.osc_paging.specs.Agree.{Apart, ReadsAsLeaf}
+use Rattle.osc_paging.specs.Agree.{ReadsAsLeaf}
 use Rattle.osc_paging.specs.CopyLaws.{IsNoTable, IsTable, KeepsTaken}
 use Rattle.osc_paging.specs.OtherLaws.{IsAnyTable}
 use Rattle.osc_paging.proofs.WordLists.{slice_get-set}
-use Rattle.osc_paging.proofs.TableLists.{mapping_at-with_page, frame_of-with_table, piece_of-with_table, apart-with_table, apart-found, apart-placed}
+use Rattle.osc_paging.proofs.TableLists.{mapping_at-with_page, frame_of-with_table, piece_of-with_table, apart-with_table, apart-found}
 use Rattle.osc_paging.proofs.Kept.{position_passes}
 use Rattle.osc_paging.proofs.Needed.{link_all-pages}
 use Rattle.osc_space.specs.Free.{clear_jobs}
 use Rattle.osc_parts.specs.Jobs.{AllWriteWhere}
-use Rattle.osc_showing.specs.Showing.{closes, is_closed, is_wiped, clears, AllDue, PutFits, IsWhole, JobFits, JobsFit, Tidy, Turned, IsPlain, AllRead}
-use Rattle.osc_showing.proofs.Folds.{Grows, fit-grows, closed-append, wiped-more, due-more, some-is, reads-zero, plain-fit, plain-closed}
+use Rattle.osc_showing.specs.Showing.{is_closed, is_wiped, clears, AllDue, JobsFit, Tidy, Turned, IsPlain, AllRead}
+use Rattle.osc_showing.proofs.Folds.{Grows, fit-grows, closed-append, wiped-more, due-more, some-is, plain-fit, plain-closed}
 
 -- ---- a turn that goes on
 pub record More (t : KeptTables) (free : List Bool) (u : KeptTables) (after : List Bool) (more : List Job) : Type 0 where

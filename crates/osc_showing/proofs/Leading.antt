@@ -1,6 +1,5 @@
 -- Where what is shown leads.
-use Rattle.std.proofs.Common.{ℕ, zero, suc, ◌+◌, ◌*◌, ◌≡◌, ◌≢◌, ◌<◌, ◌⊎◌, inl, inr, ⊎_elim, Bool, true, false, Option, Some, None, List, slice_get, arith, refl, sym, ap, subst, ◌∙◌}
-use Rattle.std.proofs.lemmas.Bool.Decides.{nat_tests}
+use Rattle.std.proofs.Common.{ℕ, suc, ◌+◌, ◌*◌, ◌≡◌, ◌<◌, ◌⊎◌, inl, inr, ⊎_elim, Bool, true, false, Option, Some, None, List, arith, refl, sym, ap, subst, ◌∙◌}
 use Rattle.osc_word.specs.declared.job_list.Job.{Job}
 use Rattle.osc_sv39.specs.declared.flags.PteBits.{PteBits}
 use Rattle.osc_sv39.specs.declared.entries.PteEntry.TheVariants.{Absent, Table, Leaf}
@@ -10,11 +9,9 @@ use Rattle.osc_sv39.specs.Walk.{word_at}
 use Rattle.osc_sv39.proofs.EntriesBack.{tables_read_back}
 use Rattle.osc_paging.specs.declared.Piece.{Piece}
 use Rattle.osc_paging.specs.KeptTables.{KeptTables, frame_of, piece_of, mapping_at, page_entry, link_entry, word_in, kept_word}
-use Rattle.osc_paging.specs.OtherLaws.{IsAnyTable}
-use Rattle.osc_paging.specs.CopyLaws.{IsTable}
 use Rattle.osc_paging.proofs.TableLists.{apart-found, apart-placed}
 use Rattle.osc_showing.specs.Showing.{is_closed, is_wiped, AllDue, Tidy, Shows}
-use Rattle.osc_showing.specs.Leading.{piece_at, mapped_to, LinkLeads, LeafLeads, Leads, ShownLeads}
+use Rattle.osc_showing.specs.Leading.{piece_at, mapped_to, LinkLeads, LeafLeads, ShownLeads}
 use Rattle.osc_showing.proofs.Folds.{some-is, reads-zero, small-frame}
 
 -- ---- what a kept word says

@@ -1,29 +1,29 @@
 -- Each malloc and each free turns the tables.
-use Rattle.std.proofs.Common.{ℕ, zero, suc, ◌+◌, ◌*◌, ◌≡◌, ◌≢◌, ◌<◌, ◌≤◌, ◌==◌, ◌&&◌, ◌||◌, ◌⊎◌, inl, inr, ltb, leb, cond, Bool, true, false, is_some, Option, Some, None, List, [], ◌∷◌, ◌++◌, length, map, filter, slice_get, arith, refl, sym, ap, subst, ◌∙◌}
+use Rattle.std.proofs.Common.{ℕ, suc, ◌+◌, ◌*◌, ◌≡◌, ◌<◌, ◌≤◌, ◌==◌, ◌&&◌, ◌||◌, ◌⊎◌, inl, inr, ltb, cond, Bool, true, false, is_some, Option, Some, None, List, [], ◌∷◌, ◌++◌, length, filter, slice_get, arith, refl, sym, ap, subst, ◌∙◌}
 use Rattle.std.specs.List.{list_any, range_with_len}
 use Rattle.std.proofs.lemmas.Bool.Decides.{nat_tests}
 use Rattle.std.proofs.lemmas.List.FromFn.{length-map-range_with_len}
 use Rattle.osc_word.specs.declared.calls.Answer.{Answer}
 use Rattle.osc_word.specs.declared.job_list.Job.{Job}
 use Rattle.osc_word.specs.declared.settings.HeapKind.TheVariants.{Oscar}
-use Rattle.osc_word.specs.AddressMap.{first_shadow_page, is_shadow}
+use Rattle.osc_word.specs.AddressMap.{is_shadow}
 use Rattle.osc_sv39.specs.declared.entries.Mapping.{Mapping}
 use Rattle.osc_class.specs.Rooms.{room_of, shadow_pages}
 use Rattle.osc_slot.specs.declared.Block.{Block}
 use Rattle.osc_slot.specs.Heap.{place, next_block, free_count, HeapAndFree}
-use Rattle.osc_paging.specs.KeptTables.{KeptTables, mapping_at}
+use Rattle.osc_paging.specs.KeptTables.{mapping_at}
 use Rattle.osc_paging.specs.TableChanges.{Changed, map_pages}
 use Rattle.osc_space.specs.declared.ObjectFact.{ObjectFact}
-use Rattle.osc_space.specs.Objects.{Seen, AreGranted, mark, next_page, fact, has_page, is_live, is_live_page, leaf_dead, is_in_leaf, object_at}
-use Rattle.osc_space.specs.Space.{Draft, Terms, Outcome, Keeps, GivesBack, first_reason, unless, unchanged}
+use Rattle.osc_space.specs.Objects.{Seen, AreGranted, next_page, has_page, is_live, is_live_page, leaf_dead, is_in_leaf, object_at}
+use Rattle.osc_space.specs.Space.{Draft, Terms, first_reason, unless, unchanged}
 use Rattle.osc_space.specs.Header.{Found, object_reasons}
 use Rattle.osc_space.specs.Share.{Regions}
 use Rattle.osc_space.specs.BlockWords.{zero_block, header_jobs, block_mappings}
-use Rattle.osc_space.specs.Malloc.{malloc_reasons, block_need, place_block, fill_block, grant_object, malloc_in, malloc_plan}
-use Rattle.osc_space.specs.Free.{linked_leaves, dead_leaves, unmap_all, reclaim_all, waiting_facts, flush, flush_where, closing_where, is_full, let_wait, freed, free_seen, free_plan, clear_jobs}
+use Rattle.osc_space.specs.Malloc.{malloc_reasons, block_need, malloc_in, malloc_plan}
+use Rattle.osc_space.specs.Free.{linked_leaves, dead_leaves, reclaim_all, waiting_facts, flush_where, closing_where, is_full, let_wait, freed, free_seen, free_plan}
 use Rattle.osc_space.specs.Agree.{ObjectsAgree}
 use Rattle.osc_space.proofs.ObjectLawProofs.{pages_are_granted_once, dead_leaves_are_dead, looks_find_objects}
-use Rattle.osc_parts.specs.Settled.{tables_of, shadows_end, Settled}
+use Rattle.osc_parts.specs.Settled.{tables_of, Settled}
 use Rattle.osc_parts.specs.FreeLaws.{HasTerms}
 use Rattle.osc_parts.proofs.Shapes as shapes
 use Rattle.osc_parts.proofs.PlacingParts as placing

@@ -1,5 +1,5 @@
 -- Each realloc turns the tables.
-use Rattle.std.proofs.Common.{ℕ, ◌+◌, ◌*◌, ◌%◌, ◌≡◌, ◌≢◌, ◌<◌, ◌≤◌, ◌==◌, ◌&&◌, ◌||◌, ◌⊎◌, inl, inr, ltb, cond, min, nat_lt, Bool, true, false, is_some, Option, Some, None, List, [], ◌∷◌, ◌++◌, length, map, slice_get, arith, refl, sym, ap, subst, ◌∙◌}
+use Rattle.std.proofs.Common.{ℕ, ◌+◌, ◌*◌, ◌%◌, ◌≡◌, ◌≢◌, ◌<◌, ◌≤◌, ◌==◌, ◌&&◌, ◌||◌, ◌⊎◌, inl, inr, ltb, cond, min, nat_lt, Bool, true, false, Option, Some, None, List, [], ◌∷◌, ◌++◌, length, map, slice_get, arith, refl, sym, ap, subst, ◌∙◌}
 use Rattle.std.specs.List.{list_any, range_with_len}
 use Rattle.std.proofs.lemmas.Bool.Decides.{nat_tests}
 use Rattle.std.proofs.lemmas.List.Folds.{list_any-append}
@@ -14,30 +14,29 @@ use Rattle.osc_class.specs.Rooms.{room_of, shadow_pages, block_bytes}
 use Rattle.osc_slot.specs.declared.Block.{Block}
 use Rattle.osc_slot.specs.Slots.{is_block, is_held}
 use Rattle.osc_slot.specs.Areas.{IsPlaced}
-use Rattle.osc_slot.specs.Heap.{Heap, place, next_block, free_count, HeapAndFree}
+use Rattle.osc_slot.specs.Heap.{Heap, place, next_block, free_count}
 use Rattle.osc_slot.proofs.Bounds.{pages_positive}
 use Rattle.osc_slot.proofs.HeldBlocks.{same_room, same_block, found}
 use Rattle.osc_slot.proofs.Fresh.{placed_is}
 use Rattle.osc_paging.specs.declared.Piece.{Piece}
 use Rattle.osc_paging.specs.KeptTables.{KeptTables, mapping_at, piece_of, need}
 use Rattle.osc_paging.specs.TableChanges.{Changed, map_pages}
-use Rattle.osc_paging.specs.CopyLaws.{IsNoTable, IsTable, KeepsTaken}
-use Rattle.osc_paging.specs.OtherLaws.{IsAnyTable}
+use Rattle.osc_paging.specs.CopyLaws.{IsTable, KeepsTaken}
 use Rattle.osc_space.specs.declared.ObjectFact.{ObjectFact}
-use Rattle.osc_space.specs.Objects.{Seen, AreGranted, mark, next_page, fact, has_page, is_live, is_live_page, leaf_dead, is_in_leaf, object_at, grant, granted_at, kill}
-use Rattle.osc_space.specs.Space.{Draft, Terms, Outcome, Keeps, GivesBack, Reason, first_reason, unless, unchanged, push}
+use Rattle.osc_space.specs.Objects.{Seen, AreGranted, mark, next_page, fact, has_page, is_live, is_live_page, leaf_dead, is_in_leaf, object_at, grant, granted_at}
+use Rattle.osc_space.specs.Space.{Draft, Terms, GivesBack, Reason, first_reason, unless, push}
 use Rattle.osc_space.specs.Header.{Found, object_reasons, block_of}
 use Rattle.osc_space.specs.Share.{Regions}
 use Rattle.osc_space.specs.WordLaws.{IsFrameOf}
 use Rattle.osc_space.specs.BlockWords.{zero_block, header_jobs, copy_jobs, trim_jobs, block_mappings}
-use Rattle.osc_space.specs.Malloc.{memory_reasons, block_need, grant_object, map_shadows}
-use Rattle.osc_space.specs.Free.{linked_leaves, dead_leaves, unmap_all, unmap_object, reclaim_all, waiting_facts, waiting_blocks, kill_object, flush, clear_jobs}
-use Rattle.osc_space.specs.Realloc.{stays, frames_for, left_block, replace_object, realloc_reasons, realloc_in, realloc_made, realloc_seen, realloc_plan}
-use Rattle.osc_space.specs.Agree.{ObjectsAgree, IsKept}
+use Rattle.osc_space.specs.Malloc.{block_need, grant_object, map_shadows}
+use Rattle.osc_space.specs.Free.{linked_leaves, dead_leaves, unmap_object, reclaim_all, waiting_facts, kill_object, clear_jobs}
+use Rattle.osc_space.specs.Realloc.{stays, frames_for, replace_object, realloc_reasons, realloc_made, realloc_seen, realloc_plan}
+use Rattle.osc_space.specs.Agree.{ObjectsAgree}
 use Rattle.osc_space.specs.Fork.{heap_frame_of}
-use Rattle.osc_space.proofs.ObjectLawProofs.{pages_are_granted_once, dead_leaves_are_dead, looks_find_objects, mark-grant, mark-kill, grants_keep}
+use Rattle.osc_space.proofs.ObjectLawProofs.{dead_leaves_are_dead, looks_find_objects, mark-grant, mark-kill, grants_keep}
 use Rattle.osc_parts.specs.Frames.{among, FramesFit, Trades}
-use Rattle.osc_parts.specs.Settled.{tables_of, shadows_end, Settled}
+use Rattle.osc_parts.specs.Settled.{tables_of, Settled}
 use Rattle.osc_parts.specs.Jobs.{AllWriteWhere}
 use Rattle.osc_parts.specs.FreeLaws.{HasTerms}
 use Rattle.osc_parts.proofs.Lists.{get_append}
@@ -47,11 +46,11 @@ use Rattle.osc_parts.proofs.Trading.{held_is, held_once, held_taken, fit_after, 
 use Rattle.osc_parts.proofs.Settling.{settled_frames, same_taken}
 use Rattle.osc_parts.proofs.PlacingParts as placing
 use Rattle.osc_parts.proofs.Waiting.{covers}
-use Rattle.osc_parts.proofs.Blocks.{HasFrames, block_frame, all_weaker, fill_where, copy_where, trim_where, where_append, block_reads, no_piece, lies_at, room_is_room, room_holds}
+use Rattle.osc_parts.proofs.Blocks.{HasFrames, block_frame, all_weaker, fill_where, copy_where, trim_where, where_append, block_reads, no_piece, lies_at, room_holds}
 use Rattle.osc_parts.proofs.MallocParts.{no_want}
 use Rattle.osc_parts.proofs.ReallocParts.{at_place}
 use Rattle.osc_parts.proofs.FreeReturn.{taken_lives}
-use Rattle.osc_showing.specs.Showing.{AllDue, Tidy, Turned, IsPlain, AllRead}
+use Rattle.osc_showing.specs.Showing.{AllDue, Turned, IsPlain, AllRead}
 use Rattle.osc_showing.specs.PlanTurns.{PlanTurns}
 use Rattle.osc_showing.proofs.Wiping.{Wiping, rest-wipes, unmap_all-wipes, reclaim_all-wipes, wiped-turns}
 use Rattle.osc_showing.proofs.Growing.{tidy-taken, due-maps, maps-turns, clears-due, clear-turns, plain-turns}

@@ -1,6 +1,5 @@
 -- What the words show at the call's plan, and after each of its jobs.
-use Rattle.std.proofs.Common.{ℕ, ◌+◌, ◌*◌, ◌≡◌, ◌≢◌, ◌<◌, ◌≤◌, ◌==◌, ◌&&◌, ◌||◌, ◌⊎◌, inl, inr, ⊎_elim, cond, Bool, true, false, Option, Some, None, List, [], ◌∷◌, ◌++◌, length, slice_get, arith, refl, sym, ap, subst, ◌∙◌}
-use Rattle.std.specs.List.{list_any}
+use Rattle.std.proofs.Common.{ℕ, ◌*◌, ◌≡◌, ◌<◌, ◌==◌, ◌&&◌, ◌||◌, ◌⊎◌, inl, inr, ⊎_elim, cond, Bool, true, false, Option, Some, None, List, ◌∷◌, length, arith, refl, sym, ap, subst, ◌∙◌}
 use Rattle.std.proofs.lemmas.Bool.Decides.{nat_tests}
 use Rattle.std.proofs.lemmas.Option.{slice_get_within}
 use Rattle.std.proofs.lemmas.List.{length-set}
@@ -16,8 +15,8 @@ use Rattle.osc_paging.specs.Agree.{Agrees}
 use Rattle.osc_paging.specs.CopyLaws.{IsNoTable, IsTable}
 use Rattle.osc_paging.specs.OtherLaws.{IsAnyTable}
 use Rattle.osc_paging.proofs.WordLists.{put_word_at}
-use Rattle.osc_showing.specs.Showing.{closes, is_closed, is_wiped, clears, AllDue, PutFits, IsWhole, JobFits, JobsFit, Tidy, Turned, IsShown, Shows, IsQuiet}
-use Rattle.osc_showing.proofs.Folds.{decodes, reads-zero, some-is, apart-frames}
+use Rattle.osc_showing.specs.Showing.{is_closed, is_wiped, AllDue, PutFits, Tidy, Turned, IsShown, Shows, IsQuiet}
+use Rattle.osc_showing.proofs.Folds.{decodes, reads-zero, apart-frames}
 
 pub tidy-of : (t : KeptTables) (free : List Bool) (words : List ℕ) → Agrees t free words → Tidy t free
 tidy-of t free words a = record { small = a.small; apart = a.apart; taken = a.taken; spare = a.spare; leaves = a.leaves }

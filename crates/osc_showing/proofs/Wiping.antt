@@ -1,22 +1,20 @@
 -- Pages that are unmapped and leaf tables that are given up: each old entry that goes is to become 0.
-use Rattle.std.proofs.Common.{ℕ, zero, suc, ◌+◌, ◌*◌, ◌/◌, ◌%◌, ◌≡◌, ◌≢◌, ◌<◌, ◌≤◌, ◌==◌, ◌&&◌, ◌||◌, ◌⊎◌, inl, inr, ⊎_elim, cond, Bool, true, false, Option, Some, None, List, [], ◌∷◌, ◌++◌, slice_get, arith, refl, sym, ap, subst, ◌∙◌}
-use Rattle.std.specs.List.{list_any, range_with_len}
+use Rattle.std.proofs.Common.{ℕ, zero, suc, ◌+◌, ◌*◌, ◌/◌, ◌%◌, ◌≡◌, ◌≢◌, ◌<◌, ◌==◌, ◌&&◌, ◌⊎◌, inl, inr, ⊎_elim, cond, Bool, true, false, Option, Some, None, List, [], ◌∷◌, ◌++◌, slice_get, arith, refl, sym, ap, subst, ◌∙◌}
+use Rattle.std.specs.List.{list_any}
 use Rattle.std.proofs.lemmas.Bool.Decides.{nat_tests}
-use Rattle.osc_word.specs.declared.job_list.Job.{Job}
-use Rattle.osc_sv39.specs.declared.entries.Mapping.{Mapping}
 use Rattle.osc_sv39.specs.Entries.{word_of}
 use Rattle.osc_paging.specs.declared.Piece.{Piece}
 use Rattle.osc_paging.specs.declared.TableFrame.{TableFrame}
-use Rattle.osc_paging.specs.KeptTables.{KeptTables, piece_of, frame_of, mapping_at, page_entry, link_entry, is_piece, word_in, kept_word}
+use Rattle.osc_paging.specs.KeptTables.{KeptTables, piece_of, frame_of, mapping_at, page_entry, link_entry, word_in, kept_word}
 use Rattle.osc_paging.specs.TableChanges.{Changed, put_job, without_page, without_table, table_frame, leaf_cleared, unmap_page, unlinked, reclaim}
-use Rattle.osc_paging.specs.Agree.{Apart, AgreesAfter}
-use Rattle.osc_paging.specs.CopyLaws.{IsNoTable, IsTable}
+use Rattle.osc_paging.specs.Agree.{Apart}
+use Rattle.osc_paging.specs.CopyLaws.{IsTable}
 use Rattle.osc_paging.specs.OtherLaws.{IsAnyTable}
 use Rattle.osc_paging.proofs.TableLists.{mapping_at-without_page, frame_of-without_table, apart-found, apart-placed, piece_of-without_same, piece_of-without_none, apart-without_table, piece_of-left, piece_of-push, or_else}
-use Rattle.osc_space.specs.Free.{unmap_all, reclaim_all, clear_jobs}
-use Rattle.osc_showing.specs.Showing.{is_closed, is_wiped, clears, AllDue, JobsFit, Tidy, Turned}
+use Rattle.osc_space.specs.Free.{unmap_all, reclaim_all}
+use Rattle.osc_showing.specs.Showing.{is_wiped, Tidy, Turned}
 use Rattle.osc_showing.specs.ShowLaws.{IsEmpty}
-use Rattle.osc_showing.proofs.Folds.{AllZeros, zeros-append, zeros-closed, zeros-wiped, zeros-fit, wiped-more, closed-append, some-is}
+use Rattle.osc_showing.proofs.Folds.{AllZeros, zeros-append, zeros-closed, zeros-wiped, zeros-fit, wiped-more, some-is}
 
 -- while pages and leaf tables go, each job clears a word
 pub record Wiping (old : KeptTables) (c : Changed) : Type 0 where
