@@ -1,0 +1,12 @@
+pub mod Refits
+pub mod WordSteps
+pub mod HeapShows
+pub mod DataFrames
+pub mod Stores
+pub mod Copies
+pub mod Working
+pub mod Going
+pub mod KeptShown
+pub mod ShowSteps
+pub mod StartAgrees
+pub mod Blocks

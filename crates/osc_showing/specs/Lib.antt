@@ -1,0 +1,4 @@
+pub mod Showing
+pub mod ShowLaws
+pub mod PlanTurns
+pub mod Leading
