@@ -1,5 +1,5 @@
 -- The pages at the boot.
-use Rattle.std.proofs.Common.{◌≡◌, ◌≢◌, ℕ, zero, suc, ◌+◌, ◌-◌, ◌*◌, ◌/◌, ◌<◌, ◌≤◌, ◌⊎◌, inl, inr, Bool, true, false, List, [], ◌∷◌, ◌++◌, length, map, Option, Some, None, refl, ap, sym, ◌∙◌, arith, slice_get, take, drop, append_assoc}
+use Rattle.std.proofs.Common.{◌≡◌, ◌≢◌, ℕ, zero, suc, ◌+◌, ◌-◌, ◌*◌, ◌/◌, ◌<◌, ◌≤◌, ◌⊎◌, inl, inr, Bool, true, false, List, [], ◌∷◌, ◌++◌, length, map, Some, None, refl, ap, sym, ◌∙◌, arith, slice_get, take, drop, append_assoc}
 use Rattle.std.specs.Prelude.{unwrap_or, is_some, IsSome, slice_index}
 use Rattle.std.specs.List.{filter, range_with_len}
 use Rattle.std.proofs.lemmas.Bool.Decides.{nat_tests}
@@ -9,7 +9,7 @@ use Rattle.std.proofs.lemmas.List.{map-append}
 use Rattle.std.proofs.lemmas.List.FromFn.{map-range_with_len_more}
 use Rattle.osc_sv39.specs.declared.flags.PteBits.{PteBits}
 use Rattle.osc_word.specs.AddressMap.{first_stack_page, stack_size}
-use Rattle.osc_image.specs.Image.{Image, Segment, IsNextPage, NoneFrom, bits_at, byte_at, is_mapped, laid_byte, pages, pages_below, page_limit}
+use Rattle.osc_image.specs.Image.{Image, Segment, IsNextPage, NoneFrom, bits_at, byte_at, is_mapped, laid_byte, pages_below, page_limit}
 use Rattle.osc_elf.proofs.Counting.{pages-start, pages-mapped, pages-unmapped, pages-all, page_limit-is}
 use Rattle.osc_world.specs.declared.Byte.{Byte}
 use Rattle.osc_world.specs.declared.Byte.TheVariants.{Number}

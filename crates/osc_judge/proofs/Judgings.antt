@@ -1,9 +1,8 @@
 -- The run after one more event, by what the event meant.
-use Rattle.std.proofs.Common.{◌≡◌, ℕ, ◌+◌, Some, None, refl, ap}
+use Rattle.std.proofs.Common.{◌≡◌, ℕ, ◌+◌, Some, None, refl}
 use Rattle.std.specs.declared.option.Option.{Option}
 use Rattle.osc_word.specs.declared.steps.Event.{Event}
 use Rattle.osc_world.specs.declared.ObjectWhy.{ObjectWhy}
-use Rattle.osc_world.specs.declared.ObjectWhy.TheVariants.{Trap}
 use Rattle.osc_world.specs.World.{World}
 use Rattle.osc_world.specs.Offers.{Meaning, Goes, Errs, Unfit}
 use Rattle.osc_world.specs.Events.{meaning}

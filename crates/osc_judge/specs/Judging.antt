@@ -1,11 +1,11 @@
 -- What a world that is given events has judged, and what it answers.
-use Rattle.std.specs.Prelude.{ℕ, Bool, true, false, if◌then◌else◌, List, [], Option, Some, None}
+use Rattle.std.specs.Prelude.{ℕ, Bool, if◌then◌else◌, List, [], Option, Some, None}
 use Rattle.std.specs.Option.{option_map, option_map_or, option_and_then}
 use Rattle.osc_word.specs.declared.steps.Event.{Event}
 use Rattle.osc_world.specs.declared.ObjectWhy.{ObjectWhy}
 use Rattle.osc_world.specs.declared.ObjectWhy.TheVariants.{Trap}
 use Rattle.osc_world.specs.Offers.{Meaning, Goes, Errs, Unfit}
-use Rattle.osc_world.specs.States.{turn_of, status_of}
+use Rattle.osc_world.specs.States.{status_of}
 use Rattle.osc_world.specs.World.{World, WorldTurn}
 use Rattle.osc_world.specs.Run.{ObjectRun, judged}
 use Rattle.osc_judge.specs.declared.judging.Judged.{Judged}
