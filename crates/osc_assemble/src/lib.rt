@@ -48,3 +48,6 @@ impl From<AllocError> for TextFault {
         TextFault::Memory
     }
 }
+
+#[cfg(test)]
+mod tests;

@@ -1,0 +1,4 @@
+pub mod Code
+pub mod Hexadecimal
+pub mod Words
+pub mod Fronts
