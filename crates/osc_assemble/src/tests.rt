@@ -9,15 +9,21 @@ use std::test::Fail;
 const ROWS: [(&str, [u8; 12]); 3] = [
     (
         "addi x10, x0, 7\naddi x17, x0, 1\necall",
-        [0x13, 0x05, 0x70, 0x00, 0x93, 0x08, 0x10, 0x00, 0x73, 0x00, 0x00, 0x00],
+        [
+            0x13, 0x05, 0x70, 0x00, 0x93, 0x08, 0x10, 0x00, 0x73, 0x00, 0x00, 0x00,
+        ],
     ),
     (
         "# a comment\n\nli x10, 74565\nmul x10, x11, x12\n",
-        [0x37, 0x25, 0x01, 0x00, 0x13, 0x05, 0x55, 0x34, 0x33, 0x85, 0xc5, 0x02],
+        [
+            0x37, 0x25, 0x01, 0x00, 0x13, 0x05, 0x55, 0x34, 0x33, 0x85, 0xc5, 0x02,
+        ],
     ),
     (
         "jal x0, end\nback:\nbeq x5, x6, back\nend:\njal x1, back\n",
-        [0x6f, 0x00, 0x80, 0x00, 0x63, 0x80, 0x62, 0x00, 0xef, 0xf0, 0xdf, 0xff],
+        [
+            0x6f, 0x00, 0x80, 0x00, 0x63, 0x80, 0x62, 0x00, 0xef, 0xf0, 0xdf, 0xff,
+        ],
     ),
 ];
 
@@ -61,7 +67,10 @@ fn faults(rt: HostRuntime) -> Result<(), Fail> {
         ("a:\na:\njal x0, A", TextFault::Form { line: 3 }),
         ("a:\n\r\n", TextFault::Form { line: 2 }),
         ("jal x0, b\na:\n\na:\na:\n", TextFault::Bound { line: 4 }),
-        ("a:\njal x0, a\nla x5, b\nla x5, c\n", TextFault::Label { line: 3 }),
+        (
+            "a:\njal x0, a\nla x5, b\nla x5, c\n",
+            TextFault::Label { line: 3 },
+        ),
         ("a:\nbeq x5, x6, aa\n", TextFault::Label { line: 2 }),
         ("ecall\necall ", TextFault::Form { line: 2 }),
     ];
