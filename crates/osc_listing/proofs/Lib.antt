@@ -1,4 +1,4 @@
-pub mod Code
+pub mod Flags
 pub mod Hexadecimal
 pub mod Words
 pub mod Fronts

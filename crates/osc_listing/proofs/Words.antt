@@ -20,8 +20,12 @@ word-shown image page at bytes h each =
     let one : 4096 * page + (at + 1) ≡ 4096 * page + at + 1 = omega arith in
     let two : 4096 * page + (at + 2) ≡ 4096 * page + at + 2 = omega arith in
     let three : 4096 * page + (at + 3) ≡ 4096 * page + at + 3 = omega arith in
-    rw (each at (omega (arith, h)), each (at + 1) (omega (arith, h)) ∙ ap (byte_of image) one,
-    each (at + 2) (omega (arith, h)) ∙ ap (byte_of image) two, each (at + 3) (omega (arith, h)) ∙ ap (byte_of image) three) refl
+    rw (
+      each at (omega (arith, h)),
+      each (at + 1) (omega (arith, h)) ∙ ap (byte_of image) one,
+      each (at + 2) (omega (arith, h)) ∙ ap (byte_of image) two,
+      each (at + 3) (omega (arith, h)) ∙ ap (byte_of image) three,
+    ) refl
 
 -- the text has the lines before an index, and then one more
 pub line-next : (image : Image) (page index address word : ℕ) (before after : List ℕ) → before ≡ first_lines image page index

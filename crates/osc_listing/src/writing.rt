@@ -52,7 +52,11 @@ fn write_page<K: Sink>(
 
 /// Writes the listing of an image, by the room of a page's text. `Failed` comes only where the sink
 /// failed, and then the sink got the front of the listing. No memory is taken.
-pub fn write_listing<K: Sink>(image: &Image, text: &mut PageText, sink: &mut K) -> Result<(), Failed>
+pub fn write_listing<K: Sink>(
+    image: &Image,
+    text: &mut PageText,
+    sink: &mut K,
+) -> Result<(), Failed>
     ensures done { OnOk result (K.faults sink.new ≡ K.faults sink.old) }
     ensures cause { OnErr result (Rose (K.faults sink.old) (K.faults sink.new)) }
     ensures part { OnErr result (AppendsFront (K.holds sink.old) (K.holds sink.new) (listing image.now)) }

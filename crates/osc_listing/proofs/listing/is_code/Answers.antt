@@ -1,5 +1,5 @@
 use Rattle.std.proofs.Common.{sym, ◌∙◌}
-use Rattle.osc_listing.proofs.Code.{code_flag, no_flags}
+use Rattle.osc_listing.proofs.Flags.{code_flag, no_flags}
 use Rattle.osc_listing.proofs.listing.is_code.Goals as goal
 
 pub returns-in-Some : goal.returns-in-Some
