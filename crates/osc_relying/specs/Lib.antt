@@ -1,0 +1,5 @@
+pub mod Levels
+pub mod Shut
+pub mod Relying
+pub mod Reaching
+pub mod Unburied
