@@ -29,7 +29,7 @@ use Rattle.osc_machine.specs.Start.{start_of}
 use Rattle.osc_machine.specs.Step.{step}
 use Rattle.osc_safe.specs.KernelSteps.{KernelStep, Kept, Begins, Plans, EndsJob, Finishes}
 use Rattle.osc_safe.specs.Standing.{FitsSome}
-use Rattle.osc_safe.specs.Telling.{WasBuried, KernelTold}
+use Rattle.osc_safe.specs.Telling.{WasBuried, PastFits, KernelTold}
 use Rattle.osc_safe.proofs.CallSteps.{finished-home}
 use Rattle.osc_safe.proofs.FinishTells.{labels-on, out-touches}
 use Rattle.osc_safe.proofs.HoldingSteps.{steps_hold}
@@ -50,8 +50,10 @@ plain-replaces a n e = refl
 
 -- where the answer replaces nothing
 plain-made : (pasts : List Past) (c : Calling) (made : Planned) → ((n : ℕ) → replaces made.answer n ≡ false) → IsUnburied pasts (committed c made)
-plain-made pasts c made none done i g u d =
-    let same : made.answer ≡ done.answer = grind (arith, u) in ap (λ a. replaces a g.shadow.object) (sym same) ∙ none g.shadow.object
+plain-made pasts c made none = record { dead = λ done i g u d. one done g u; waiting = λ done i g u d. one done g u }
+  where
+    one : (done : Committed) (g : Grave) → (committed c made).under_way ≡ Returning done → replaces done.answer g.shadow.object ≡ false
+    one done g u = let same : made.answer ≡ done.answer = grind (arith, u) in ap (λ a. replaces a g.shadow.object) (sym same) ∙ none g.shadow.object
 
 -- an object that lives is in no grave
 live-none : (objects : List ObjectFact) (said object : ℕ) (o : ObjectFact) (g : Grave) → fact objects object ≡ Some o → o.state ≡ Live → WasBuried objects said g → (object == g.shadow.object) ≡ false
@@ -67,13 +69,26 @@ live-none objects said object o g is live b = go (object == g.shadow.object) ref
 
 moved-made : (pasts : List Past) (k : KernelState) (c : Calling) (p : Process) (made : Planned) (place object new pointer : ℕ) (o : ObjectFact) → process_at k c.pid ≡ Some p → Rests pasts k.processes
     → made.answer ≡ answer.Moved object new pointer → fact p.space.objects object ≡ Some o → o.state ≡ Live → IsUnburied (pasts_from pasts (plan_shows c place made.answer made.effect)) (committed c made)
-moved-made pasts k c p made place object new pointer o e r said is live done i g u d =
-    let same : made.answer ≡ done.answer = grind (arith, u) in
-    let whom : c ≡ done.calling = grind (arith, u) in
-    let shows : pasts_from pasts (plan_shows c place made.answer made.effect) ≡ pasts = ap (λ a. pasts_from pasts (plan_shows c place a made.effect)) said in
-    let there : slice_get (past_of pasts c.pid).dead i ≡ Some g = ap (λ (z : Calling). slice_get (past_of pasts z.pid).dead i) whom ∙ ap (λ z. slice_get (past_of z done.calling.pid).dead i) (sym shows) ∙ d in
-    let f = r.each c.pid p e in
-    ap (λ a. replaces a g.shadow.object) (sym same ∙ said) ∙ live-none p.space.objects _ object o g is live (f.dead i g there)
+moved-made pasts k c p made place object new pointer o e r said is live = record {
+  dead = λ done i g u d. one done g u (f.dead i g (there done u (λ past. slice_get past.dead i ≡ Some g) d));
+  waiting = λ done i g u d. one done g u (f.waiting i g (there done u (λ past. slice_get past.waiting i ≡ Some g) d));
+}
+  where
+    f : PastFits p.space (length p.space.objects) (past_of pasts c.pid)
+    f = r.each c.pid p e
+
+    shows : pasts_from pasts (plan_shows c place made.answer made.effect) ≡ pasts
+    shows = ap (λ a. pasts_from pasts (plan_shows c place a made.effect)) said
+
+    there : (done : Committed) → (committed c made).under_way ≡ Returning done → (P : Past → Type 0) → P (past_of (pasts_from pasts (plan_shows c place made.answer made.effect)) done.calling.pid) → P (past_of pasts c.pid)
+    there done u P d =
+        let whom : c ≡ done.calling = grind (arith, u) in
+        subst (λ (z : Calling). P (past_of pasts z.pid)) (sym whom) (subst (λ z. P (past_of z done.calling.pid)) shows d)
+
+    one : (done : Committed) (g : Grave) → (committed c made).under_way ≡ Returning done → WasBuried p.space.objects (length p.space.objects) g → replaces done.answer g.shadow.object ≡ false
+    one done g u b =
+        let same : made.answer ≡ done.answer = grind (arith, u) in
+        ap (λ a. replaces a g.shadow.object) (sym same ∙ said) ∙ live-none p.space.objects (length p.space.objects) object o g is live b
 
 space-made : (pasts : List Past) (k : KernelState) (c : Calling) (p q : Process) (made : Planned) (place : ℕ) → process_at k c.pid ≡ Some p → Rests pasts k.processes
     → SpaceGoes (length k.journal) p.space q.space made.answer → IsUnburied (pasts_from pasts (plan_shows c place made.answer made.effect)) (committed c made)
@@ -91,7 +106,7 @@ row-made pasts k c p made place e r (AddsOne child ps os ws plain shows) = plain
 
 -- no call is committed
 none-made : (pasts : List Past) (k : KernelState) (u : UnderWay) → k.under_way ≡ u → ((done : Committed) → u ≡ Returning done → ⊥) → IsUnburied pasts k
-none-made pasts k u e none done i g r d = absurd (none done (sym e ∙ r))
+none-made pasts k u e none = record { dead = λ done i g r d. absurd (none done (sym e ∙ r)); waiting = λ done i g r d. absurd (none done (sym e ∙ r)) }
 
 abbrev ShownUnburied : List Past → Shown → Type 0
 ShownUnburied pasts s = IsUnburied (pasts_from pasts s.shows) s.kernel
@@ -131,7 +146,7 @@ began hart regs pc asked pasts k r = began-in hart (calling_of hart regs pc aske
 job-made : (word : ℕ) (pasts : List Past) (k : KernelState) → IsUnburied pasts k → ShownUnburied pasts (job_done word k)
 unfolding job_done
 job-made word pasts k all =
-    subst (λ z. IsUnburied z (job_done word k).kernel) (sym (touches-keep (out_shows k.under_way k.jobs) pasts (out-touches k.under_way k.jobs))) (λ done i g u d. all done i g u d)
+    subst (λ z. IsUnburied z (job_done word k).kernel) (sym (touches-keep (out_shows k.under_way k.jobs) pasts (out-touches k.under_way k.jobs))) (record { dead = all.dead; waiting = all.waiting })
 
 -- ---- each step
 step-unburied : (pasts : List Past) (old new : KernelState) (shows : List Label) → FitsSome old → KernelTold pasts old → KernelStep old new shows → IsUnburied pasts old → IsUnburied (pasts_from pasts shows) new
@@ -170,11 +185,15 @@ going-on [] ran k = k
 going-on (n ∷ picks) ran k = going-on picks (with_step ran (step ran.state n)) (going-step ran n k)
 
 first-none : (k : KernelState) → IsUnburied (no_past ∷ []) k
-first-none k done i g u d = absurd (empty done.calling.pid d)
+first-none k = record { dead = λ done i g u d. absurd (no_dead done.calling.pid i g d); waiting = λ done i g u d. absurd (no_waiting done.calling.pid i g d) }
   where
-    empty : (pid : ℕ) → slice_get (past_of (no_past ∷ []) pid).dead i ≡ Some g → ⊥
-    empty zero e = grind (arith, e)
-    empty (suc pid) e = grind (arith, e)
+    no_dead : (pid i : ℕ) (g : Grave) → slice_get (past_of (no_past ∷ []) pid).dead i ≡ Some g → ⊥
+    no_dead zero i g e = grind (arith, e)
+    no_dead (suc pid) i g e = grind (arith, e)
+
+    no_waiting : (pid i : ℕ) (g : Grave) → slice_get (past_of (no_past ∷ []) pid).waiting i ≡ Some g → ⊥
+    no_waiting zero i g e = grind (arith, e)
+    no_waiting (suc pid) i g e = grind (arith, e)
 
 pub runs_bury_later : RunsBuryLater
 runs_bury_later file image config picks k fit is_image room has =

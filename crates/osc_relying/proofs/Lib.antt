@@ -5,3 +5,4 @@ pub mod ShutSteps
 pub mod StartRelies
 pub mod Reached
 pub mod BuriedLater
+pub mod Shelters

@@ -1,5 +1,5 @@
 -- What a hart may rely on reaches a grave only where its object goes.
-use Rattle.std.proofs.Common.{ℕ, suc, ◌+◌, ◌-◌, ◌/◌, ◌%◌, ◌^◌, ◌≡◌, ◌<◌, ◌≤◌, ◌||◌, ◌==◌, ◌⊎◌, inl, ⊎_elim, nat_lt, if◌then◌else◌, Bool, true, false, is_none, Option, Some, None, List, [], ◌∷◌, slice_get, arith, refl, sym, ap, subst, ◌∙◌}
+use Rattle.std.proofs.Common.{ℕ, suc, ◌+◌, ◌-◌, ◌/◌, ◌%◌, ◌^◌, ◌≡◌, ◌<◌, ◌≤◌, ◌||◌, ◌==◌, ◌⊎◌, inl, inr, ⊎_elim, nat_lt, if◌then◌else◌, Bool, true, false, is_none, Option, Some, None, List, [], ◌∷◌, slice_get, arith, refl, sym, ap, subst, ◌∙◌}
 use Rattle.std.proofs.Math.Nat.{mod-eq_of_lt}
 use Rattle.std.proofs.lemmas.Bool.Decides.{nat_tests}
 use Rattle.osc_word.specs.declared.calls.Answer.TheVariants.{Nothing}
@@ -156,9 +156,27 @@ none-dead ran k pid page grave none r d =
     let at = found (λ (g : Grave). is_page_of page g.shadow) (past_after ran.trace pid).dead grave d in
     let w = who-replaces k.under_way pid grave.shadow.object r in
     let there = ap (λ z. slice_get (past_after ran.trace z).dead at.place) w.own ∙ at.is in
-    let no = none w.done at.place grave w.is there in
+    let no = none.dead w.done at.place grave w.is there in
     let yes = w.it in
     grind (arith, no, yes)
+
+is-waiting : (a b : Bool) → (a || b) ≡ true → (b ≡ true → ⊥) → a ≡ true
+is-waiting true b e none = refl
+is-waiting false b e none = absurd (none e)
+
+-- so what waits is not replaced
+waiting-waits : (ran : Ran) (k : KernelState) (pid page frame : ℕ) (p : Process) (grave : Grave) → IsUnburied (pasts_from (no_past ∷ []) ran.trace) k → GraveGoes k p pid page frame grave
+    → waiting_at ran.trace pid page ≡ Some grave → is_waiting p.space grave.shadow.object ≡ true
+waiting-waits ran k pid page frame p grave none g d = is-waiting (is_waiting p.space grave.shadow.object) (replaces (answer_for k.under_way pid) grave.shadow.object) g.goes not_replaced
+  where
+    not_replaced : replaces (answer_for k.under_way pid) grave.shadow.object ≡ true → ⊥
+    not_replaced r =
+        let at = found (λ (x : Grave). is_page_of page x.shadow) (past_after ran.trace pid).waiting grave d in
+        let w = who-replaces k.under_way pid grave.shadow.object r in
+        let there = ap (λ z. slice_get (past_after ran.trace z).waiting at.place) w.own ∙ at.is in
+        let no = none.waiting w.done at.place grave w.is there in
+        let yes = w.it in
+        grind (arith, no, yes)
 
 -- ---- runs
 pub runs_reach_going : RunsReachGoing
@@ -166,6 +184,8 @@ runs_reach_going file image config picks k fit is_image room has heap = record {
   goes = goes;
   dead = λ n pid page frame called grave reached d. none-dead ran k pid page grave (runs_bury_later file image config picks k fit is_image room has)
       (dead-replaced ran k pid page frame reached.p grave unmaps reached.is reached.lives (goes n pid page frame called grave reached (inl d)) d) d;
+  waits = λ n pid page frame called grave reached w. waiting-waits ran k pid page frame reached.p grave (runs_bury_later file image config picks k fit is_image room has)
+      (goes n pid page frame called grave reached (inr w)) w;
 }
   where
     ran : Ran

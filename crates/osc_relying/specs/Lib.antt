@@ -3,3 +3,4 @@ pub mod Shut
 pub mod Relying
 pub mod Reaching
 pub mod Unburied
+pub mod Sheltered

@@ -9,6 +9,7 @@ use Rattle.osc_image.specs.Frames.{needed_frames}
 use Rattle.osc_image.specs.Form.{image_of}
 use Rattle.osc_slot.specs.Heap.{frame_of as heap_frame}
 use Rattle.osc_space.specs.declared.ObjectFact.{ObjectFact}
+use Rattle.osc_space.specs.Agree.{is_waiting}
 use Rattle.osc_space.specs.Objects.{fact, has_page}
 use Rattle.osc_calls.specs.Kernel.{KernelState, Process}
 use Rattle.osc_machine.specs.DeadPages.{Grave, dead_at, waiting_at}
@@ -31,6 +32,9 @@ pub record GravesGo (ran : Ran) (k : KernelState) : Type 0 where
       → (dead_at ran.trace pid page ≡ Some grave) ⊎ (waiting_at ran.trace pid page ≡ Some grave) → GraveGoes k reached.p pid page frame grave
   -- so none that is dead is reached: what the call under way replaced is in no grave yet
   pub dead : (n pid page frame : ℕ) (called : Bool) (grave : Grave) → PageOf k n called pid page frame → dead_at ran.trace pid page ≡ Some grave → ⊥
+  -- and the object of one that waits does
+  pub waits : (n pid page frame : ℕ) (called : Bool) (grave : Grave) (reached : PageOf k n called pid page frame) → waiting_at ran.trace pid page ≡ Some grave
+      → is_waiting reached.p.space grave.shadow.object ≡ true
 
 -- ---- the law
 abbrev pub RunsReachGoing : Type 0

@@ -13,10 +13,11 @@ use Rattle.osc_machine.specs.Start.{start_of}
 use Rattle.osc_machine.specs.Laws.{HasKernel}
 use Rattle.osc_caches.specs.Going.{replaces}
 
-abbrev pub IsUnburied : List Past → KernelState → Type 0
-IsUnburied pasts k =
-    (done : Committed) (i : ℕ) (g : Grave) → k.under_way ≡ Returning done → slice_get (past_of pasts done.calling.pid).dead i ≡ Some g
-    → replaces done.answer g.shadow.object ≡ false
+pub record IsUnburied (pasts : List Past) (k : KernelState) : Type 0 where
+  pub dead : (done : Committed) (i : ℕ) (g : Grave) → k.under_way ≡ Returning done → slice_get (past_of pasts done.calling.pid).dead i ≡ Some g
+      → replaces done.answer g.shadow.object ≡ false
+  pub waiting : (done : Committed) (i : ℕ) (g : Grave) → k.under_way ≡ Returning done → slice_get (past_of pasts done.calling.pid).waiting i ≡ Some g
+      → replaces done.answer g.shadow.object ≡ false
 
 -- ---- the law
 abbrev pub RunsBuryLater : Type 0

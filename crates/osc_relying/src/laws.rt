@@ -5,6 +5,7 @@ ghost use Rattle.osc_relying.specs.Shut.{StepsShut, RunsShut};
 ghost use Rattle.osc_relying.specs.Relying.{StartsRely};
 ghost use Rattle.osc_relying.specs.Reaching.{RunsReachGoing};
 ghost use Rattle.osc_relying.specs.Unburied.{RunsBuryLater};
+ghost use Rattle.osc_relying.specs.Sheltered.{RelyingShelters};
 
 /// In every run the tables of each process have as many levels as the machine.
 pub fn levels_fit()
@@ -34,4 +35,10 @@ pub fn graves_go()
 /// In every run the object that a realloc under way replaced is in no grave yet.
 pub fn replaced_die_later()
     ensures { RunsBuryLater }
+{}
+
+/// Where the machine relies, at any moment of a run, no instruction does an access to a page that is dead, and
+/// one under way to a page that waits is in a word of the block of the page's object.
+pub fn relying_shelters()
+    ensures { RelyingShelters }
 {}
