@@ -6,3 +6,5 @@ pub mod StartRelies
 pub mod Reached
 pub mod BuriedLater
 pub mod Shelters
+pub mod DoneRows
+pub mod SafeWhere

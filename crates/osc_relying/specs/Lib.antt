@@ -4,3 +4,4 @@ pub mod Relying
 pub mod Reaching
 pub mod Unburied
 pub mod Sheltered
+pub mod SafeWhere

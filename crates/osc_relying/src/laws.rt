@@ -6,6 +6,7 @@ ghost use Rattle.osc_relying.specs.Relying.{StartsRely};
 ghost use Rattle.osc_relying.specs.Reaching.{RunsReachGoing};
 ghost use Rattle.osc_relying.specs.Unburied.{RunsBuryLater};
 ghost use Rattle.osc_relying.specs.Sheltered.{RelyingShelters};
+ghost use Rattle.osc_relying.specs.SafeWhere.{SafeWhereRelying};
 
 /// In every run the tables of each process have as many levels as the machine.
 pub fn levels_fit()
@@ -41,4 +42,9 @@ pub fn replaced_die_later()
 /// one under way to a page that waits is in a word of the block of the page's object.
 pub fn relying_shelters()
     ensures { RelyingShelters }
+{}
+
+/// A run on the heap with shadows is safe where the machine relies at each of its moments.
+pub fn safe_where_relying()
+    ensures { SafeWhereRelying }
 {}
