@@ -1,12 +1,10 @@
 -- What a realloc replaced lived when it was planned.
-use Rattle.std.proofs.Common.{ℕ, zero, suc, ◌+◌, ◌≡◌, ◌==◌, Bool, true, false, Option, Some, None, List, [], ◌∷◌, ◌++◌, length, slice_get, arith, refl, sym, ap, subst, ◌∙◌}
+use Rattle.std.proofs.Common.{ℕ, zero, suc, ◌≡◌, ◌==◌, Bool, true, false, Option, Some, None, List, [], ◌∷◌, length, slice_get, arith, refl, sym, ap, subst, ◌∙◌}
 use Rattle.std.proofs.lemmas.Bool.Decides.{nat_tests}
 use Rattle.osc_word.specs.declared.calls.Answer.{Answer}
 use Rattle.osc_word.specs.declared.calls.Answer.TheVariants as answer
 use Rattle.osc_word.specs.declared.calls.Request.{Request}
-use Rattle.osc_word.specs.declared.settings.Config.{Config}
 use Rattle.osc_word.specs.declared.steps.Label.{Label}
-use Rattle.osc_image.specs.Image.{Image}
 use Rattle.osc_space.specs.declared.ObjectFact.{ObjectFact}
 use Rattle.osc_space.specs.declared.ObjectState.TheVariants.{Live, Dead}
 use Rattle.osc_space.specs.Header.{Found}
@@ -21,7 +19,6 @@ use Rattle.osc_calls.specs.Begin.{Began, no_words, begun_in, begin_as, begin_cal
 use Rattle.osc_calls.specs.Plan.{committed, plan, plan_by, plan_waiting, plan_of}
 use Rattle.osc_calls.specs.JobDone.{job_done}
 use Rattle.osc_calls.specs.Finish.{finish}
-use Rattle.osc_calls.specs.Open.{open_kernel}
 use Rattle.osc_machine.specs.DeadPages.{Grave, Past, no_past, past_of, pasts_from}
 use Rattle.osc_machine.specs.Laws.{HasKernel}
 use Rattle.osc_machine.specs.Run.{Ran, with_step, run_on, run}

@@ -1,5 +1,5 @@
 -- No change of a process's memory changes the number of levels of its tables.
-use Rattle.std.proofs.Common.{ℕ, suc, ◌+◌, ◌/◌, ◌≡◌, ◌==◌, Bool, true, false, cond, Option, Some, None, List, [], ◌∷◌, ◌++◌, map, refl, ap, ◌∙◌}
+use Rattle.std.proofs.Common.{ℕ, ◌+◌, ◌/◌, ◌≡◌, ◌==◌, Bool, true, false, cond, Option, Some, None, List, [], ◌∷◌, ◌++◌, map, refl, ◌∙◌}
 use Rattle.std.specs.Prelude.{take}
 use Rattle.std.specs.List.{range_with_len}
 use Rattle.osc_word.specs.declared.settings.HeapKind.{HeapKind}
@@ -11,7 +11,7 @@ use Rattle.osc_slot.specs.declared.Block.{Block}
 use Rattle.osc_slot.specs.Heap.{next_block, block_of_user}
 use Rattle.osc_slot.specs.Slots.{is_room}
 use Rattle.osc_class.specs.Rooms.{room_of}
-use Rattle.osc_paging.specs.KeptTables.{KeptTables, levels_of, frame_of}
+use Rattle.osc_paging.specs.KeptTables.{KeptTables, frame_of}
 use Rattle.osc_paging.specs.TableChanges.{Changed, zero_job, without_page, map_page, map_pages, leaf_cleared, unmap_page, unlinked, reclaim}
 use Rattle.osc_paging.proofs.Needed.{map_page-top}
 use Rattle.osc_space.specs.declared.ObjectFact.{ObjectFact}

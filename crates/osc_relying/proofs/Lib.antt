@@ -8,3 +8,4 @@ pub mod BuriedLater
 pub mod Shelters
 pub mod DoneRows
 pub mod SafeWhere
+pub mod ConfigSteps

@@ -1,10 +1,9 @@
 -- What a hart may rely on reaches a grave only where its object goes.
-use Rattle.std.proofs.Common.{ℕ, suc, ◌+◌, ◌-◌, ◌/◌, ◌%◌, ◌^◌, ◌≡◌, ◌<◌, ◌≤◌, ◌||◌, ◌==◌, ◌⊎◌, inl, inr, ⊎_elim, nat_lt, if◌then◌else◌, Bool, true, false, is_none, Option, Some, None, List, [], ◌∷◌, slice_get, arith, refl, sym, ap, subst, ◌∙◌}
+use Rattle.std.proofs.Common.{ℕ, ◌+◌, ◌≡◌, ◌<◌, ◌||◌, ◌==◌, ◌⊎◌, inl, inr, ⊎_elim, nat_lt, if◌then◌else◌, Bool, true, false, is_none, Some, None, List, [], ◌∷◌, slice_get, arith, refl, sym, ap, subst, ◌∙◌}
 use Rattle.std.proofs.Math.Nat.{mod-eq_of_lt}
 use Rattle.std.proofs.lemmas.Bool.Decides.{nat_tests}
 use Rattle.osc_word.specs.declared.calls.Answer.TheVariants.{Nothing}
 use Rattle.osc_word.specs.declared.settings.HeapKind.TheVariants.{Oscar}
-use Rattle.osc_sv39.specs.declared.entries.Mapping.{Mapping}
 use Rattle.osc_sv39.specs.Walk.{number_of}
 use Rattle.osc_paging.specs.KeptTables.{levels_of, mapping_at}
 use Rattle.osc_space.specs.declared.ObjectFact.{ObjectFact}
@@ -24,17 +23,17 @@ use Rattle.osc_machine.specs.DeadPages.{Grave, no_past, is_page_of, grave_in, pa
 use Rattle.osc_machine.specs.Run.{Ran, run}
 use Rattle.osc_machine.specs.Start.{start_of}
 use Rattle.osc_safe.specs.DeadUnmapped.{DeadUnmapped}
-use Rattle.osc_safe.specs.Telling.{WasBuried, PastFits, said_by}
+use Rattle.osc_safe.specs.Telling.{WasBuried, said_by}
 use Rattle.osc_safe.proofs.PastLabels.{found}
 use Rattle.osc_safe.proofs.KernelRows.{fits-of}
 use Rattle.osc_safe.proofs.StandingRuns.{first_ran}
 use Rattle.osc_safe.proofs.TellingRuns.{known-on, first-known, runs_tell}
 use Rattle.osc_safe.proofs.FreshGrants.{process-granted}
 use Rattle.osc_safe.proofs.UnmappedRuns.{runs_unmap}
-use Rattle.osc_caches.specs.Going.{GoingPage, replaces, is_going}
+use Rattle.osc_caches.specs.Going.{replaces, is_going}
 use Rattle.osc_relying.specs.Levels.{LevelsFit}
 use Rattle.osc_relying.specs.Relying.{answer_for, HasPage, Kept, Goes, PageOf}
-use Rattle.osc_relying.specs.Reaching.{GraveGoes, GravesGo, RunsReachGoing}
+use Rattle.osc_relying.specs.Reaching.{GraveGoes, RunsReachGoing}
 use Rattle.osc_relying.specs.Unburied.{IsUnburied}
 use Rattle.osc_relying.proofs.BuriedLater.{runs_bury_later}
 use Rattle.osc_relying.proofs.LevelSteps.{runs_fit_levels}

@@ -27,7 +27,7 @@ use Rattle.osc_machine.specs.Run.{run}
 use Rattle.osc_machine.specs.Safe.{state_at, trace_at, hart_at, word_reached, Touches, TouchesDead, TouchesWaiting, LiesInBlock, ReachesBlock}
 use Rattle.osc_machine.specs.Start.{start_of}
 use Rattle.osc_machine.specs.Step.{Stepped, step}
-use Rattle.osc_machine.specs.Turns.{guest_ask, place_ask, hart_ask, hart_told, touched}
+use Rattle.osc_machine.specs.Turns.{guest_ask, place_ask, hart_ask, hart_told}
 use Rattle.osc_machine.proofs.RowLaws.{turns_by_row}
 use Rattle.osc_safe.specs.Holding.{Holds}
 use Rattle.osc_safe.specs.Standing.{Stands}
@@ -37,7 +37,7 @@ use Rattle.osc_safe.proofs.SafeRuns.{safe_by_accesses}
 use Rattle.osc_safe.proofs.UndoneTurns.{Turning, Still, Turns, turning}
 use Rattle.osc_written.specs.Graves.{ReachesNoGrave}
 use Rattle.osc_written.proofs.WrittenGraves.{runs_reach_no_grave}
-use Rattle.osc_relying.specs.SafeWhere.{ReliesAt, SafeWhereRelying}
+use Rattle.osc_relying.specs.SafeWhere.{SafeWhereRelying}
 use Rattle.osc_relying.specs.Sheltered.{IsSheltered}
 use Rattle.osc_relying.proofs.DoneRows.{is_done, contained, none-shown, DoneBy, ByGuest, ByJob, done-row}
 use Rattle.osc_relying.proofs.Shelters.{relying_shelters}

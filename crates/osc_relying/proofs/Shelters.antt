@@ -1,5 +1,5 @@
 -- Where a machine relies, accesses to graves are safe.
-use Rattle.std.proofs.Common.{ℕ, zero, suc, ◌/◌, ◌≡◌, ◌<◌, inr, true, false, Some, None, List, [], ◌∷◌, length, get_or, slice_get, option_map, arith, refl, sym, ap, subst, ◌∙◌}
+use Rattle.std.proofs.Common.{ℕ, zero, suc, ◌/◌, ◌≡◌, ◌<◌, inr, true, false, Some, List, [], ◌∷◌, length, get_or, option_map, arith, refl, sym, ap, subst, ◌∙◌}
 use Rattle.std.specs.List.{Contains}
 use Rattle.std.specs.Option.{option_and_then}
 use Rattle.osc_slot.specs.declared.Block.{Block}
@@ -11,8 +11,6 @@ use Rattle.osc_slot.proofs.Fresh.{placed_is}
 use Rattle.osc_slot.proofs.HeldBlocks.{same_block, is_block_self, found}
 use Rattle.osc_space.specs.Header.{block_of}
 use Rattle.osc_guest.specs.declared.accesses.MemoryAccess.{MemoryAccess}
-use Rattle.osc_guest.specs.declared.places.Place.TheVariants as at
-use Rattle.osc_guest.specs.declared.places.Stage.{Stage}
 use Rattle.osc_guest.specs.Accesses.{access_page}
 use Rattle.osc_guest.specs.Asks.{word_place}
 use Rattle.osc_guest.specs.Carry.{PlaceOk}

@@ -7,7 +7,7 @@ use Rattle.osc_word.specs.declared.calls.Request.{Request}
 use Rattle.osc_space.specs.Header.{Found}
 use Rattle.osc_calls.specs.declared.Begun.{Begun}
 use Rattle.osc_calls.specs.declared.Begun.TheVariants as begun
-use Rattle.osc_calls.specs.Kernel.{KernelState, Process, Calling, Committed, UnderWay, Quiet, Retrying, Leaving, Waiting, Returning, process_at, is_last, has_journal_room}
+use Rattle.osc_calls.specs.Kernel.{KernelState, Process, Calling, Committed, UnderWay, Retrying, Leaving, Waiting, Returning, process_at, is_last, has_journal_room}
 use Rattle.osc_calls.specs.Requests.{calling_of, meant, is_ready}
 use Rattle.osc_calls.specs.Refusals.{refusal_of}
 use Rattle.osc_calls.specs.Planned.{planned_unless}

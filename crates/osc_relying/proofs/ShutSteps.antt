@@ -1,12 +1,12 @@
 -- Each step keeps that a call which is not done beside others holds all boxes.
-use Rattle.std.proofs.Common.{ℕ, zero, suc, ◌+◌, ◌≡◌, ◌≤◌, ◌==◌, ◌⊎◌, inl, inr, ⊎_elim, Bool, true, false, Option, Some, None, is_some, List, [], ◌∷◌, length, get_or, set, slice_get, slice_set, arith, refl, sym, ap, subst, ◌∙◌}
+use Rattle.std.proofs.Common.{ℕ, ◌≡◌, ◌⊎◌, inl, inr, ⊎_elim, true, Some, None, is_some, List, [], ◌∷◌, length, get_or, set, slice_set, arith, refl, sym, ap, subst, ◌∙◌}
 use Rattle.std.specs.Prelude.{drop}
 use Rattle.std.proofs.lemmas.Bool.Decides.{nat_tests}
 use Rattle.osc_word.specs.declared.settings.Config.{Config}
 use Rattle.osc_word.specs.declared.orders.Start.{Start}
 use Rattle.osc_image.specs.Image.{Image}
 use Rattle.osc_paging.specs.Boxes.{BoxState}
-use Rattle.osc_calls.specs.Kernel.{KernelState, Calling, Committed, Waiting, Returning}
+use Rattle.osc_calls.specs.Kernel.{KernelState, Calling, Waiting, Returning}
 use Rattle.osc_calls.specs.Begin.{begin}
 use Rattle.osc_calls.specs.Plan.{plan}
 use Rattle.osc_calls.specs.JobDone.{job_done}
@@ -15,24 +15,21 @@ use Rattle.osc_calls.specs.Open.{open_kernel, open_start}
 use Rattle.osc_settled.specs.KernelFits.{KernelFits}
 use Rattle.osc_settled.specs.UnderWay.{UnderWayFits}
 use Rattle.osc_machine.specs.declared.HartAsk.{HartAsk}
-use Rattle.osc_machine.specs.Parts.{CallPlace, TakingBoxes, SecondWord, GivingBoxes, HartState, State}
+use Rattle.osc_machine.specs.Parts.{TakingBoxes, SecondWord, GivingBoxes, HartState, State}
 use Rattle.osc_machine.specs.Turns.{HartTold, Box, Kernel, Word, Gate as ToldGate, OldVersion, Done, Turn, hart_told, found_words}
 use Rattle.osc_machine.specs.Step.{Stepped, step}
 use Rattle.osc_machine.specs.Did.{Turned, Unmoved, InGuest, TakesKernel, TakesBox, TakesLastBox, FindsFirst, FindsSecond, Works, EndsJob, GivesBox, GivesKernel, Asks, Did, Stayed, TookBox, GaveBox, ChangedBox, Loaded, Stored, TookGate, FoundOldVersion, OpenedGate, TookKernel, GaveKernel}
-use Rattle.osc_machine.specs.Laws.{HasKernel}
 use Rattle.osc_machine.specs.Run.{Ran, with_step, run_on}
-use Rattle.osc_machine.specs.Start.{first_hart, started, start_of}
+use Rattle.osc_machine.specs.Start.{first_hart, start_of}
 use Rattle.osc_machine.proofs.RowLaws.{turns_by_row, steps_by_row}
 use Rattle.osc_safe.specs.Holding.{holds_for_call, HoldsAt, HartHolds, Holds}
-use Rattle.osc_safe.specs.Standing.{AtHome, InHand, Stands}
+use Rattle.osc_safe.specs.Standing.{InHand, Stands}
 use Rattle.osc_safe.proofs.CallBoxes.{box-set}
 use Rattle.osc_safe.proofs.HoldingSteps.{steps_hold}
 use Rattle.osc_safe.proofs.HoldingRuns.{each-first}
-use Rattle.osc_safe.proofs.KernelRows.{hand-is-one}
 use Rattle.osc_safe.proofs.StandingSteps.{each-written, steps_stand}
 use Rattle.osc_safe.proofs.StandingRuns.{Both, first_ran, started-both}
-use Rattle.osc_records.specs.Agreeing.{TakesNone}
-use Rattle.osc_records.specs.Recorded.{CallFits, Recorded, AllRecorded}
+use Rattle.osc_records.specs.Recorded.{CallFits, AllRecorded}
 use Rattle.osc_records.proofs.Steps.{steps_record}
 use Rattle.osc_records.proofs.Runs.{runs_record}
 use Rattle.osc_relying.specs.Shut.{goes_beside, IsShut, AllShut, StepsShut, RunsShut}

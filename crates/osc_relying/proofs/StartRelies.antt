@@ -1,17 +1,14 @@
 -- The machine before its first step: each cache is empty, and no hart walks.
-use Rattle.std.proofs.Common.{ℕ, zero, suc, ◌+◌, ◌≡◌, ◌≤◌, ◌||◌, Bool, true, false, Option, Some, None, List, [], ◌∷◌, replicate, get_or, slice_get, arith, refl, sym, ap, subst, ◌∙◌}
+use Rattle.std.proofs.Common.{ℕ, zero, suc, ◌+◌, ◌≡◌, ◌||◌, Bool, true, false, Some, None, List, replicate, get_or, slice_get, arith, refl, ap, subst, ◌∙◌}
 use Rattle.osc_word.specs.declared.orders.Start.{Start}
 use Rattle.osc_word.specs.declared.settings.Config.{Config}
 use Rattle.osc_word.specs.declared.settings.HeapKind.{HeapKind}
 use Rattle.osc_word.specs.declared.settings.HeapKind.TheVariants.{Oscar}
 use Rattle.osc_image.specs.Image.{Image}
-use Rattle.osc_paging.specs.Boxes.{BoxState, new_box, no_entries}
-use Rattle.osc_slot.specs.Slots.{is_held}
+use Rattle.osc_paging.specs.Boxes.{BoxState, new_box}
 use Rattle.osc_space.specs.Share.{Regions}
 use Rattle.osc_space.specs.Space.{Space}
-use Rattle.osc_space.specs.Header.{block_of}
-use Rattle.osc_space.specs.Objects.{fact, is_live}
-use Rattle.osc_space.specs.declared.ObjectFact.{ObjectFact}
+use Rattle.osc_space.specs.Objects.{is_live}
 use Rattle.osc_space.specs.Agree.{is_waiting}
 use Rattle.osc_parts.specs.Settled.{PartsFit}
 use Rattle.osc_guest.specs.Carry.{CacheOk, HartOk}
@@ -22,13 +19,13 @@ use Rattle.osc_settled.specs.KernelFits.{KernelFits}
 use Rattle.osc_settled.proofs.Following.{parts_hold}
 use Rattle.osc_settled.proofs.ImageStart.{images_start}
 use Rattle.osc_settled.proofs.Laying.{ranges}
-use Rattle.osc_machine.specs.Parts.{HartState, State}
+use Rattle.osc_machine.specs.Parts.{HartState}
 use Rattle.osc_machine.specs.Start.{first_hart, started, start_of}
 use Rattle.osc_safe.proofs.HoldingRuns.{each-first}
 use Rattle.osc_records.specs.Agreeing.{is_start}
 use Rattle.osc_caches.specs.Blocks.{BlocksStand}
 use Rattle.osc_caches.proofs.StartAgrees.{starts_stand}
-use Rattle.osc_relying.specs.Relying.{PageOf, TableOf, HasBox, AtHome, InHand, Called, Relies, StartsRely}
+use Rattle.osc_relying.specs.Relying.{PageOf, TableOf, HasBox, AtHome, InHand, Called, StartsRely}
 use Rattle.osc_relying.proofs.LevelSteps.{opens-fit}
 use Rattle.osc_relying.proofs.ShutSteps.{start-shut}
 

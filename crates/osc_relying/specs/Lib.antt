@@ -5,3 +5,4 @@ pub mod Reaching
 pub mod Unburied
 pub mod Sheltered
 pub mod SafeWhere
+pub mod Configs

@@ -7,6 +7,7 @@ ghost use Rattle.osc_relying.specs.Reaching.{RunsReachGoing};
 ghost use Rattle.osc_relying.specs.Unburied.{RunsBuryLater};
 ghost use Rattle.osc_relying.specs.Sheltered.{RelyingShelters};
 ghost use Rattle.osc_relying.specs.SafeWhere.{SafeWhereRelying};
+ghost use Rattle.osc_relying.specs.Configs.{StepsKeepConfig, RunsKeepConfig};
 
 /// In every run the tables of each process have as many levels as the machine.
 pub fn levels_fit()
@@ -47,4 +48,10 @@ pub fn relying_shelters()
 /// A run on the heap with shadows is safe where the machine relies at each of its moments.
 pub fn safe_where_relying()
     ensures { SafeWhereRelying }
+{}
+
+/// In every run the kernel's configuration is the one that the machine began with.
+pub fn configs_stay()
+    ensures steps { StepsKeepConfig }
+    ensures runs { RunsKeepConfig }
 {}
