@@ -8,7 +8,6 @@ use Rattle.osc_word.specs.declared.calls.Call.{Call}
 use Rattle.osc_word.specs.declared.calls.Call.TheVariants as calls
 use Rattle.osc_word.specs.declared.calls.Request.{Request}
 use Rattle.osc_word.specs.declared.settings.Config.{Config}
-use Rattle.osc_word.specs.declared.settings.HeapKind.{HeapKind}
 use Rattle.osc_word.specs.declared.settings.HeapKind.TheVariants.{Oscar}
 use Rattle.osc_word.specs.Limits.{first_fault}
 use Rattle.osc_image.specs.Image.{Image}
@@ -19,7 +18,7 @@ use Rattle.osc_space.specs.Agree.{is_waiting}
 use Rattle.osc_space.specs.Header.{Found}
 use Rattle.osc_space.specs.Objects.{is_live}
 use Rattle.osc_space.specs.Share.{Regions}
-use Rattle.osc_space.specs.Space.{Space, Outcome, Closing, Keeps, unchanged}
+use Rattle.osc_space.specs.Space.{Space, Outcome, Keeps, unchanged}
 use Rattle.osc_parts.specs.FreeLaws.{HasTerms}
 use Rattle.osc_parts.specs.Settled.{PartsFit, Settled}
 use Rattle.osc_calls.specs.declared.Begun.{Begun}

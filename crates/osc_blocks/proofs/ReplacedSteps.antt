@@ -16,7 +16,7 @@ use Rattle.osc_slot.specs.Slots.{is_room}
 use Rattle.osc_slot.specs.Heap.{next_block, block_of_user}
 use Rattle.osc_paging.specs.KeptTables.{KeptTables}
 use Rattle.osc_space.specs.Objects.{Seen, object_at}
-use Rattle.osc_space.specs.Space.{Draft, Outcome, Terms, Reason, Closing, Keeps, GivesBack, first_reason, unchanged, unless}
+use Rattle.osc_space.specs.Space.{Draft, Outcome, Terms, Reason, Closing, Keeps, first_reason, unchanged, unless}
 use Rattle.osc_space.specs.Header.{Found, object_reasons}
 use Rattle.osc_space.specs.Malloc.{malloc_reasons, malloc_in, malloc_plan}
 use Rattle.osc_space.specs.Free.{let_wait, freed, free_seen, free_plan}
