@@ -38,9 +38,9 @@ closes-elsewhere t (ClearBox hart) f w h = refl
 closes-elsewhere t (Tell hart) f w h = refl
 closes-elsewhere t (ToOut at first count) f w h = refl
 
-elsewhere-opens : (t : KeptTables) (jobs : List Job) (f : ℕ) → AllElsewhere t jobs → IsTable t f → is_closed jobs f ≡ false
-elsewhere-opens t [] f w h = refl
-elsewhere-opens t (job ∷ jobs) f w h = let a = closes-elsewhere t job f w.0 h in let b = elsewhere-opens t jobs f w.1 h in grind (arith, a, b)
+elsewhere-open : (t : KeptTables) (jobs : List Job) (f : ℕ) → AllElsewhere t jobs → IsTable t f → is_closed jobs f ≡ false
+elsewhere-open t [] f w h = refl
+elsewhere-open t (job ∷ jobs) f w h = let a = closes-elsewhere t job f w.0 h in let b = elsewhere-open t jobs f w.1 h in grind (arith, a, b)
 
 -- ---- what a plan does
 pub record Leaves (k : KernelState) (c : Calling) (p : Process) (made : Planned) : Type 0 where
@@ -139,12 +139,12 @@ committed-last words k c p made a u here leaves fits = carries-last k (committed
           after = q;
           is = leaves.others pid q other there;
           lives = lives;
-          carried = same-carried q.space Nothing made.kernel.jobs (λ f h. elsewhere-opens q.space.tables made.kernel.jobs f
+          carried = same-carried q.space Nothing made.kernel.jobs (λ f h. elsewhere-open q.space.tables made.kernel.jobs f
               (kept_shown.others words (committed c made) done pid q leaves.maker fits refl (leaves.apart pid q other there) (leaves.others pid q other there) lives leaves.maker_is leaves.maker_lives) h);
           keeps = λ n l. refl;
         }
 
 -- the jobs of a fork make no table of the caller
-pub other-opens : (words : List ℕ) (k : KernelState) (done : Committed) (pid : ℕ) (p maker : Process) → KernelFits words k → k.under_way ≡ Returning done → pid ≢ made_by done.effect done.calling.pid → process_at k pid ≡ Some p → p.status ≡ None
+pub other-open : (words : List ℕ) (k : KernelState) (done : Committed) (pid : ℕ) (p maker : Process) → KernelFits words k → k.under_way ≡ Returning done → pid ≢ made_by done.effect done.calling.pid → process_at k pid ≡ Some p → p.status ≡ None
     → process_at k (made_by done.effect done.calling.pid) ≡ Some maker → maker.status ≡ None → (f : ℕ) → IsTable p.space.tables f → is_closed k.jobs f ≡ false
-other-opens words k done pid p maker fits u apart here lives is alive f h = elsewhere-opens p.space.tables k.jobs f (kept_shown.others words k done pid p maker fits u apart here lives is alive) h
+other-open words k done pid p maker fits u apart here lives is alive f h = elsewhere-open p.space.tables k.jobs f (kept_shown.others words k done pid p maker fits u apart here lives is alive) h
