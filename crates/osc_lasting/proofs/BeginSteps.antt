@@ -1,8 +1,7 @@
 -- A hart that takes the kernel leaves what each hart relies on, whatever it asks.
-use Rattle.std.proofs.Common.{ℕ, ◌≡◌, ◌<◌, not, Bool, true, false, cond, Option, Some, None, List, [], length, slice_get, arith, refl, sym, ap, subst, ◌∙◌}
+use Rattle.std.proofs.Common.{ℕ, ◌≡◌, ◌<◌, not, Bool, true, false, cond, Option, Some, None, List, length, slice_get, arith, refl, sym, ap, subst}
 use Rattle.std.proofs.lemmas.Bool.Decides.{nat_tests}
 use Rattle.osc_word.specs.declared.calls.Answer.TheVariants.{Nothing}
-use Rattle.osc_word.specs.declared.calls.Request.{Request}
 use Rattle.osc_word.specs.declared.settings.HeapKind.TheVariants.{Oscar}
 use Rattle.osc_calls.specs.declared.Begun.{Begun}
 use Rattle.osc_calls.specs.declared.Begun.TheVariants as begun
@@ -10,10 +9,9 @@ use Rattle.osc_calls.specs.declared.HartRecord.TheVariants.{Runs}
 use Rattle.osc_calls.specs.Kernel.{KernelState, Process, Calling, UnderWay, Quiet, Retrying, Leaving, Waiting, process_at, has_journal_room}
 use Rattle.osc_calls.specs.Requests.{calling_of, meant, is_ready}
 use Rattle.osc_calls.specs.Begin.{first_step, no_words, begun_in, begin_as, begin_call, begin}
-use Rattle.osc_settled.specs.Records.{ending}
 use Rattle.osc_settled.specs.KernelFits.{KernelFits}
 use Rattle.osc_settled.proofs.Memories.{returns_keeps}
-use Rattle.osc_settled.proofs.Beginning.{AtRest, at_rest, asks_as}
+use Rattle.osc_settled.proofs.Beginning.{at_rest, asks_as}
 use Rattle.osc_showing.specs.Showing.{is_closed}
 use Rattle.osc_relying.specs.Levels.{LevelsFit}
 use Rattle.osc_relying.specs.Relying.{answer_for, may_keep}

@@ -1,5 +1,5 @@
 -- What a step leaves of the pages and tables of one process, and of all.
-use Rattle.std.proofs.Common.{ℕ, suc, ◌+◌, ◌-◌, ◌/◌, ◌≡◌, ◌≢◌, ◌<◌, ◌==◌, ◌||◌, ◌⊎◌, inl, inr, ⊎_elim, Bool, true, false, Option, Some, None, List, [], ◌∷◌, arith, refl, sym, ap, subst, ◌∙◌}
+use Rattle.std.proofs.Common.{ℕ, suc, ◌≡◌, ◌≢◌, ◌<◌, ◌||◌, ◌⊎◌, inl, inr, ⊎_elim, Bool, true, false, Some, None, List, [], ◌∷◌, arith, refl, sym, ap, subst, ◌∙◌}
 use Rattle.std.proofs.lemmas.Bool.Decides.{nat_tests}
 use Rattle.osc_word.specs.declared.calls.Answer.{Answer}
 use Rattle.osc_word.specs.declared.calls.Answer.TheVariants.{Nothing}
@@ -18,7 +18,7 @@ use Rattle.osc_settled.specs.Records.{ending}
 use Rattle.osc_showing.specs.Showing.{is_closed, Turned}
 use Rattle.osc_showing.specs.Leading.{piece_at}
 use Rattle.osc_caches.specs.Going.{replaces, GoingPage, PagesGo}
-use Rattle.osc_relying.specs.Relying.{answer_for, may_keep, HasPage, Kept, Goes, HasTable, Made, Aside, PageOf, TableOf}
+use Rattle.osc_relying.specs.Relying.{answer_for, may_keep, HasPage, Kept, Goes, HasTable, Made, Aside}
 use Rattle.osc_lasting.specs.Lasting.{Lasts, each_hart}
 
 -- ---- one process, at rest before

@@ -5,24 +5,23 @@ use Rattle.std.specs.List.{list_any}
 use Rattle.std.proofs.lemmas.Bool.Decides.{nat_tests}
 use Rattle.osc_word.specs.declared.calls.Answer.{Answer}
 use Rattle.osc_word.specs.declared.calls.Answer.TheVariants.{Nothing}
-use Rattle.osc_word.specs.declared.job_list.Job.{Job}
 use Rattle.osc_sv39.specs.Walk.{piece, is_canonical, number_of}
 use Rattle.osc_slot.specs.declared.Block.{Block}
 use Rattle.osc_paging.specs.KeptTables.{KeptTables, levels_of, mapping_at, frame_of}
 use Rattle.osc_space.specs.Space.{Space, Draft, Closing, Keeps, GivesBack}
-use Rattle.osc_space.specs.Finish.{give_blocks, finished, ended}
+use Rattle.osc_space.specs.Finish.{give_blocks, finished}
 use Rattle.osc_space.specs.Agree.{is_waiting}
 use Rattle.osc_calls.specs.declared.HartRecord.{HartRecord}
 use Rattle.osc_calls.specs.Kernel.{KernelState, Process, Committed, Effect, Nothing as NoEffect, Clears, Starts, Ends, UnderWay, Quiet, Retrying, Leaving, Waiting, Returning, process_at}
 use Rattle.osc_calls.specs.Refusals.{draft_of}
 use Rattle.osc_calls.specs.Finish.{hart_left, settled, returned, finish_by, finish}
 use Rattle.osc_settled.specs.Records.{is_living, ends_by, ending}
-use Rattle.osc_settled.specs.UnderWay.{ReturningFits, UnderWayFits}
+use Rattle.osc_settled.specs.UnderWay.{UnderWayFits}
 use Rattle.osc_settled.proofs.Lists.{get-put_same, get-put_other}
 use Rattle.osc_showing.specs.Showing.{is_closed, clears}
 use Rattle.osc_showing.specs.PlanTurns.{cleared_by}
 use Rattle.osc_caches.specs.Going.{replaces, GoingPage}
-use Rattle.osc_relying.specs.Relying.{answer_for, flushes, may_keep, HasPage, Kept, Goes, HasTable, Made, Aside, PageOf, TableOf}
+use Rattle.osc_relying.specs.Relying.{answer_for, flushes, may_keep, HasPage, Kept, Goes, HasTable, Made, Aside}
 use Rattle.osc_lasting.specs.Lasting.{LastsReturned, ReplacesAtFlush, FinishesLast}
 
 -- ---- what a return leaves of one process
@@ -70,17 +69,17 @@ keeps-all new n pid q = ap (λ u. not (flushes new.config.harts u pid) || list_a
 none-closed : (new : KernelState) (frame : ℕ) → IsQuiet new → is_closed new.jobs frame ≡ false
 none-closed new frame q = ap (λ js. is_closed js frame) q.jobs
 
--- what goes waits
-abbrev AllWait : Space → Answer → Type 0
-AllWait s answer = (object : ℕ) → replaces answer object ≡ false
+-- what goes was not replaced: it waits
+abbrev ReplacesNone : Answer → Type 0
+ReplacesNone answer = (object : ℕ) → replaces answer object ≡ false
 
-still-goes : (s : Space) (answer : Answer) (number frame : ℕ) → AllWait s answer → GoingPage s answer number frame → GoingPage s Nothing number frame
+still-goes : (s : Space) (answer : Answer) (number frame : ℕ) → ReplacesNone answer → GoingPage s answer number frame → GoingPage s Nothing number frame
 still-goes s answer number frame w g = record { object = g.object; o = g.o; is = g.is; has = g.has; goes = waits (is_waiting s g.object) (replaces answer g.object) (w g.object) g.goes; at = g.at }
   where
     waits : (a b : Bool) → b ≡ false → (a || b) ≡ true → (a || false) ≡ true
     waits a b e h = grind (arith, e, h)
 
-same-left : (k new : KernelState) (n pid : ℕ) (p : Process) → IsQuiet new → AllWait p.space (answer_for k.under_way pid) → process_at new pid ≡ Some p → p.status ≡ None → Left k new n pid p
+same-left : (k new : KernelState) (n pid : ℕ) (p : Process) → IsQuiet new → ReplacesNone (answer_for k.under_way pid) → process_at new pid ≡ Some p → p.status ≡ None → Left k new n pid p
 same-left k new n pid p q w there lives = record { after = p; is = there; lives = lives; top = refl; pages = page; tables = table }
   where
     page : (number frame : ℕ) → HasPage k n pid p.space number frame → HasPage new n pid p.space number frame
@@ -135,11 +134,11 @@ none-kept k done blocks n pid u closing none own l may =
     grind (arith, nat_tests, due, own, l)
 
 -- ---- the process of the call
-none-replaced : (k : KernelState) (u : UnderWay) (pid : ℕ) (p : Process) → k.under_way ≡ u → answer_for u pid ≡ Nothing → AllWait p.space (answer_for k.under_way pid)
-none-replaced k u pid p e none object = ap (λ x. replaces (answer_for x pid) object) e ∙ ap (λ a. replaces a object) none
+none-replaced : (k : KernelState) (u : UnderWay) (pid : ℕ) → k.under_way ≡ u → answer_for u pid ≡ Nothing → ReplacesNone (answer_for k.under_way pid)
+none-replaced k u pid e none object = ap (λ x. replaces (answer_for x pid) object) e ∙ ap (λ a. replaces a object) none
 
-own-replaced : (k : KernelState) (done : Committed) (pid : ℕ) (p : Process) → k.under_way ≡ Returning done → (done.calling.pid == pid) ≡ true → done.closing ≡ Keeps → ReplacesAtFlush k → AllWait p.space (answer_for k.under_way pid)
-own-replaced k done pid p e own keeps flushed object =
+own-replaced : (k : KernelState) (done : Committed) (pid : ℕ) → k.under_way ≡ Returning done → (done.calling.pid == pid) ≡ true → done.closing ≡ Keeps → ReplacesAtFlush k → ReplacesNone (answer_for k.under_way pid)
+own-replaced k done pid e own keeps flushed object =
     ap (λ x. replaces (answer_for x pid) object) e ∙ ap (λ b. replaces (if b then done.answer else Nothing) object) own ∙ flushed done object e keeps
 
 abbrev gave : KernelState → Committed → Process → Process
@@ -149,7 +148,7 @@ own-left : (k new : KernelState) (done : Committed) (n pid : ℕ) (p : Process) 
     → process_at new pid ≡ Some (gave k done p) → (closing : Closing) → done.closing ≡ closing → Left k new n pid p
 unfolding finished
 own-left k new done n pid p flushed none u q l own lives there Keeps c =
-    same-left k new n pid p q (own-replaced k done pid p u own c flushed) (there ∙ ap (λ (z : Closing). Some (record p { space = (finished z (draft_of k p)).space })) c) lives
+    same-left k new n pid p q (own-replaced k done pid u own c flushed) (there ∙ ap (λ (z : Closing). Some (record p { space = (finished z (draft_of k p)).space })) c) lives
 own-left k new done n pid p flushed none u q l own lives there (GivesBack blocks) c =
     flushed-left k new n pid p (gave k done p) q (none-kept k done blocks n pid u c none own l) (finished-gives done.closing (draft_of k p)).tables there lives
 
@@ -172,7 +171,7 @@ returned-last k new done caller flushed none u here r = left-last k new (let q =
         own-left k new done n pid p flushed none u r.quiet l d lives there done.closing refl
     go n pid p l at lives alive false d =
         let other : done.calling.pid ≢ pid = grind (arith, nat_tests, d) in
-        same-left k new n pid p r.quiet (none-replaced k (Returning done) pid p u (ap (λ b. if b then done.answer else Nothing) d)) (r.others pid other ∙ at) lives
+        same-left k new n pid p r.quiet (none-replaced k (Returning done) pid u (ap (λ b. if b then done.answer else Nothing) d)) (r.others pid other ∙ at) lives
 
 settled-returned : (k : KernelState) (done : Committed) (p : Process) (effect : Effect) → k.jobs ≡ [] → process_at k done.calling.pid ≡ Some p → done.effect ≡ effect → Returned k (record (settled done p effect k) { under_way = Quiet }) done p
 settled-returned k done p (Ends status) none here e = record {
@@ -199,7 +198,7 @@ settled-returned k done p (Starts hart start) none here e = record {
 -- ---- no call was committed
 uncommitted-last : (k new : KernelState) (u : UnderWay) → k.under_way ≡ u → ((pid : ℕ) → answer_for u pid ≡ Nothing) → IsQuiet new → new.processes ≡ k.processes → LastsReturned k new
 uncommitted-last k new u e none q same = left-last k new q.under_way (λ n pid p l at lives alive.
-    same-left k new n pid p q (none-replaced k u pid p e (none pid)) (ap (λ ps. slice_get ps pid) same ∙ at) lives)
+    same-left k new n pid p q (none-replaced k u pid e (none pid)) (ap (λ ps. slice_get ps pid) same ∙ at) lives)
 
 by-process : (k : KernelState) (done : Committed) (o : Option Process) → ReplacesAtFlush k → k.jobs ≡ [] → k.under_way ≡ Returning done → is_living (process_at k done.calling.pid) ≡ true → process_at k done.calling.pid ≡ o → LastsReturned k (returned done o k).kernel
 by-process k done None flushed none u lives e = absurd (let z = sym lives ∙ ap is_living e in let b : ⊥ = grind (arith, z) in b)

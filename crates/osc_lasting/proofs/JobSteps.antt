@@ -1,9 +1,8 @@
 -- A job that is done leaves what each hart relies on, but for one whose cache it clears.
-use Rattle.std.proofs.Common.{ℕ, ◌≡◌, ◌<◌, not, ◌||◌, if◌then◌else◌, Bool, true, false, Option, Some, None, List, [], ◌∷◌, drop, slice_get, arith, refl, sym, ap, subst, ◌∙◌}
+use Rattle.std.proofs.Common.{ℕ, ◌≡◌, not, ◌||◌, if◌then◌else◌, Bool, true, false, Some, List, [], ◌∷◌, drop, slice_get, arith, refl, sym, ap, ◌∙◌}
 use Rattle.std.specs.List.{list_any}
 use Rattle.osc_word.specs.declared.job_list.Job.{Job}
 use Rattle.osc_space.specs.Space.{Space}
-use Rattle.osc_calls.specs.Kernel.{KernelState}
 use Rattle.osc_calls.specs.JobDone.{job_done}
 use Rattle.osc_showing.specs.Showing.{closes, is_closed, clears}
 use Rattle.osc_relying.specs.Relying.{flushes, may_keep, HasPage, Kept, Goes, HasTable, Made, Aside}

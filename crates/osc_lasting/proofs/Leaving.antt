@@ -1,16 +1,13 @@
 -- What a plan leaves, by what it does to the process of its call and to the others.
-use Rattle.std.proofs.Common.{ℕ, ◌+◌, ◌≡◌, ◌≢◌, ◌<◌, ◌==◌, not, nat_lt, ◌&&◌, ◌||◌, ◌⊎◌, inl, if◌then◌else◌, Bool, true, false, Option, Some, None, List, [], ◌∷◌, ◌++◌, length, slice_get, slice_set, arith, refl, sym, ap, subst, ◌∙◌}
+use Rattle.std.proofs.Common.{ℕ, ◌≡◌, ◌≢◌, ◌<◌, ◌==◌, not, nat_lt, ◌&&◌, ◌||◌, inl, if◌then◌else◌, Bool, true, false, Some, None, List, [], ◌∷◌, slice_get, slice_set, arith, refl, sym, ap, subst, ◌∙◌}
 use Rattle.std.specs.List.{list_any}
 use Rattle.std.proofs.lemmas.Bool.Decides.{nat_tests}
-use Rattle.osc_word.specs.declared.calls.Answer.{Answer}
 use Rattle.osc_word.specs.declared.calls.Answer.TheVariants.{Nothing}
 use Rattle.osc_word.specs.declared.job_list.Job.{Job}
 use Rattle.osc_word.specs.declared.job_list.Job.TheVariants.{PutWord, ZeroWords, CopyWords, CopyPart, CopyTable, ClearBox, Tell, ToOut}
 use Rattle.osc_paging.specs.KeptTables.{KeptTables}
 use Rattle.osc_paging.specs.CopyLaws.{IsTable, WritesElsewhere, AllElsewhere}
 use Rattle.osc_space.specs.Space.{Closing, Keeps, GivesBack}
-use Rattle.osc_space.specs.Finish.{finished}
-use Rattle.osc_parts.specs.Settled.{PartsFit}
 use Rattle.osc_calls.specs.Kernel.{KernelState, Process, Calling, Committed, Waiting, Returning, process_at}
 use Rattle.osc_calls.specs.Planned.{Planned}
 use Rattle.osc_calls.specs.Plan.{committed}
@@ -25,7 +22,7 @@ use Rattle.osc_showing.proofs.Folds.{apart-frames}
 use Rattle.osc_caches.proofs.KeptShown.{kept_shown}
 use Rattle.osc_relying.specs.Relying.{answer_for}
 use Rattle.osc_lasting.specs.Lasting.{Lasts, each_hart}
-use Rattle.osc_lasting.proofs.Carried.{Carried, same-carried, IsCalm, Carries, carries-last}
+use Rattle.osc_lasting.proofs.Carried.{Carried, same-carried, IsCalm, carries-last}
 
 -- ---- jobs elsewhere make no table of these
 closes-elsewhere : (t : KeptTables) (job : Job) (f : ℕ) → WritesElsewhere t job → IsTable t f → closes job f ≡ false

@@ -1,7 +1,6 @@
 -- Each plan leaves what each hart relies on, by cases on the call.
-use Rattle.std.proofs.Common.{ℕ, ◌+◌, ◌-◌, ◌*◌, ◌/◌, ◌%◌, ◌≡◌, ◌≢◌, ◌<◌, ◌==◌, ◌||◌, inl, nat_lt, max, min, cond, Bool, true, false, Option, Some, None, unwrap_or, List, [], ◌∷◌, ◌++◌, length, slice_get, slice_set, arith, refl, sym, ap, subst, ◌∙◌}
+use Rattle.std.proofs.Common.{ℕ, ◌+◌, ◌-◌, ◌*◌, ◌/◌, ◌%◌, ◌≡◌, ◌≢◌, ◌==◌, inl, nat_lt, max, min, cond, Bool, true, false, Option, Some, None, unwrap_or, List, [], ◌∷◌, ◌++◌, length, slice_get, arith, refl, sym, ap, subst, ◌∙◌}
 use Rattle.std.specs.List.{range_with_len, flat_map}
-use Rattle.std.proofs.lemmas.Bool.Decides.{nat_tests}
 use Rattle.std.proofs.lemmas.List.Concat.{flat_map-cons}
 use Rattle.std.proofs.lemmas.Option.{slice_get_within}
 use Rattle.osc_word.specs.declared.calls.Answer.{Answer}
@@ -11,12 +10,10 @@ use Rattle.osc_word.specs.declared.calls.Call.TheVariants as calls
 use Rattle.osc_word.specs.declared.job_list.Job.{Job}
 use Rattle.osc_word.specs.declared.job_list.Job.TheVariants.{ToOut}
 use Rattle.osc_word.specs.declared.job_list.WordAt.{WordAt}
-use Rattle.osc_word.specs.declared.settings.HeapKind.{HeapKind}
 use Rattle.osc_word.specs.declared.settings.HeapKind.TheVariants.{Oscar}
 use Rattle.osc_paging.specs.KeptTables.{KeptTables}
-use Rattle.osc_paging.specs.CopyLaws.{IsTable}
 use Rattle.osc_space.specs.Header.{Found}
-use Rattle.osc_space.specs.Space.{Draft, Outcome, Closing, Keeps, GivesBack, unchanged, first_reason}
+use Rattle.osc_space.specs.Space.{Draft, Outcome, Closing, Keeps, GivesBack, unchanged}
 use Rattle.osc_space.specs.Fork.{fork_plan}
 use Rattle.osc_space.specs.Share.{share_plan, share_address}
 use Rattle.osc_parts.specs.Settled.{Settled}
@@ -37,8 +34,8 @@ use Rattle.osc_settled.proofs.Outcomes.{Asks, asks, caller_lives}
 use Rattle.osc_settled.proofs.Answering.{settled, has_terms}
 use Rattle.osc_settled.proofs.Spawning.{get-more, get-last}
 use Rattle.osc_settled.proofs.Plans.{plans_keep}
-use Rattle.osc_showing.specs.Showing.{is_closed, AllDue}
-use Rattle.osc_showing.specs.PlanTurns.{cleared_by, PlanTurns}
+use Rattle.osc_showing.specs.Showing.{is_closed}
+use Rattle.osc_showing.specs.PlanTurns.{PlanTurns}
 use Rattle.osc_showing.proofs.Folds.{closed-append}
 use Rattle.osc_showing.proofs.Plans.{unchanged-turns, malloc-turns, free-turns}
 use Rattle.osc_showing.proofs.ReallocPlans.{realloc-turns}
@@ -46,7 +43,7 @@ use Rattle.osc_caches.specs.Going.{PagesGo}
 use Rattle.osc_caches.proofs.Going.{plans_go}
 use Rattle.osc_relying.proofs.Heights.{malloc_by-same, free_of-same, realloc_by-same}
 use Rattle.osc_lasting.specs.Lasting.{Lasts, each_hart, PlansLast}
-use Rattle.osc_lasting.proofs.Carried.{Carried, same-carried, outcome-carried, lasts-then}
+use Rattle.osc_lasting.proofs.Carried.{same-carried, outcome-carried}
 use Rattle.osc_lasting.proofs.Leaving.{Leaves, same-leaves, put-leaves, committed-last, other-open}
 use Rattle.osc_lasting.proofs.ShareCarries.{share-carried}
 
@@ -154,16 +151,16 @@ share-leaves words k c p None count oscar a here lives e =
     (λ hart l. absurd (omega (arith, l)))
 
 -- ---- the heap
-outcome-leaves : (words : List ℕ) (k : KernelState) (c : Calling) (p : Process) (o : Outcome) → k.config.heap ≡ Oscar → Asks words k c → process_at k c.pid ≡ Some p → p.status ≡ None → o.draft.space.tables.top ≡ p.space.tables.top
+outcome-leaves : (words : List ℕ) (k : KernelState) (c : Calling) (p : Process) (o : Outcome) → Asks words k c → process_at k c.pid ≡ Some p → p.status ≡ None → o.draft.space.tables.top ≡ p.space.tables.top
     → PagesGo (draft_of k p) o → PlanTurns k.config.harts (draft_of k p) o → Leaves k c p (outcome_planned c.pid p k o)
-outcome-leaves words k c p o oscar a here lives top go turns =
+outcome-leaves words k c p o a here lives top go turns =
     put-leaves k c p (record p { space = o.draft.space }) (outcome_planned c.pid p k o) here lives refl refl refl (made_caller o.closing c.pid)
     (outcome-carried (draft_of k p) o (settled words k c p (entries k) a here).tables.apart top go turns.turned) turns.due
 
 free-leaves : (words : List ℕ) (found : Found) (k : KernelState) (c : Calling) (p : Process) (pointer : ℕ) → k.config.heap ≡ Oscar → Asks words k c → process_at k c.pid ≡ Some p → p.status ≡ None
     → Leaves k c p (outcome_planned c.pid p k (free_of k.config.heap (terms_of k) pointer found (draft_of k p)))
 free-leaves words found k c p pointer oscar a here lives =
-    outcome-leaves words k c p (free_of k.config.heap (terms_of k) pointer found (draft_of k p)) oscar a here lives (free_of-same k.config.heap (terms_of k) pointer found (draft_of k p))
+    outcome-leaves words k c p (free_of k.config.heap (terms_of k) pointer found (draft_of k p)) a here lives (free_of-same k.config.heap (terms_of k) pointer found (draft_of k p))
     (goes (pointer == 0)) (turns (pointer == 0))
   where
     oscars : Settled Oscar k.config.batch (entries k) words k.regions (draft_of k p)
@@ -186,14 +183,14 @@ call-leaves words found k c p (calls.Exit status) oscar a here lives fits = same
 call-leaves words found k c p (calls.Write buf len) oscar a here lives fits =
     write-leaves words k c p (first_unreadable p.space.tables buf (write_count k.output len)) p.space.tables buf (write_count k.output len) a here lives
 call-leaves words found k c p (calls.Malloc size) oscar a here lives fits =
-    outcome-leaves words k c p (malloc_by k.config.heap size (draft_of k p)) oscar a here lives (malloc_by-same k.config.heap size (draft_of k p))
+    outcome-leaves words k c p (malloc_by k.config.heap size (draft_of k p)) a here lives (malloc_by-same k.config.heap size (draft_of k p))
     (subst (λ z. PagesGo (draft_of k p) (malloc_by z size (draft_of k p))) (sym oscar)
     (plans_go.malloc k.config.batch size (entries k) words k.regions (draft_of k p) (settled-oscar words k c p oscar a here)))
     (subst (λ z. PlanTurns k.config.harts (draft_of k p) (malloc_by z size (draft_of k p))) (sym oscar)
     (malloc-turns k.config.harts k.config.batch size (entries k) words k.regions (draft_of k p) (settled-oscar words k c p oscar a here) a.waits.jobs))
 call-leaves words found k c p (calls.Free pointer) oscar a here lives fits = free-leaves words found k c p pointer oscar a here lives
 call-leaves words found k c p (calls.Realloc pointer size) oscar a here lives fits =
-    outcome-leaves words k c p (realloc_by k.config.heap (terms_of k) pointer size found (draft_of k p)) oscar a here lives (realloc_by-same k.config.heap (terms_of k) pointer size found (draft_of k p))
+    outcome-leaves words k c p (realloc_by k.config.heap (terms_of k) pointer size found (draft_of k p)) a here lives (realloc_by-same k.config.heap (terms_of k) pointer size found (draft_of k p))
     (subst (λ z. PagesGo (draft_of k p) (realloc_by z (terms_of k) pointer size found (draft_of k p))) (sym oscar)
     (plans_go.realloc k.config.batch pointer size (entries k) words k.regions (terms_of k) found (draft_of k p) (settled-oscar words k c p oscar a here)))
     (subst (λ z. PlanTurns k.config.harts (draft_of k p) (realloc_by z (terms_of k) pointer size found (draft_of k p))) (sym oscar)

@@ -1,7 +1,6 @@
 -- A share leaves the pages and tables of its process: its frames were free, and its pages are new.
-use Rattle.std.proofs.Common.{ℕ, zero, suc, ◌+◌, ◌≡◌, ◌<◌, ◌≤◌, ◌==◌, ◌⊎◌, inl, inr, ⊎_elim, ltb, nat_lt, Bool, true, false, Option, Some, None, is_some, List, [], ◌∷◌, ◌++◌, length, map, take, slice_get, slice_set, arith, refl, sym, ap, subst, ◌∙◌}
+use Rattle.std.proofs.Common.{ℕ, zero, suc, ◌+◌, ◌≡◌, ◌<◌, ◌≤◌, ◌==◌, ◌⊎◌, inl, inr, ⊎_elim, ltb, nat_lt, Bool, true, false, Option, Some, None, is_some, List, [], ◌∷◌, ◌++◌, length, map, take, slice_get, slice_set, arith, refl, sym, ap, ◌∙◌}
 use Rattle.std.proofs.lemmas.Bool.Decides.{nat_tests}
-use Rattle.osc_word.specs.declared.calls.Answer.{Answer}
 use Rattle.osc_word.specs.declared.calls.Answer.TheVariants as answers
 use Rattle.osc_word.specs.declared.settings.HeapKind.TheVariants.{Oscar}
 use Rattle.osc_word.specs.AddressMap.{is_shared}
@@ -13,10 +12,10 @@ use Rattle.osc_paging.specs.KeptTables.{mapping_at, piece_of, need}
 use Rattle.osc_paging.specs.TableChanges.{Changed, zero_job, map_pages}
 use Rattle.osc_paging.specs.CopyLaws.{IsNoTable, KeepsTaken}
 use Rattle.osc_space.specs.LeafFlags.{read_write_at}
-use Rattle.osc_space.specs.Space.{Space, Draft, reason, first_reason}
+use Rattle.osc_space.specs.Space.{Draft, reason, first_reason}
 use Rattle.osc_space.specs.Fork.{frame_of_page, free_numbers, set_free}
 use Rattle.osc_space.specs.Share.{Regions, Sharing, shared_pages, shared_frames, next_shared_page, share_plan, share_reasons}
-use Rattle.osc_space.specs.Agree.{AreApart, AllTaken, SpaceAgrees, is_waiting}
+use Rattle.osc_space.specs.Agree.{AreApart, AllTaken, SpaceAgrees}
 use Rattle.osc_parts.specs.Frames.{among, vacant, FramesFit}
 use Rattle.osc_parts.specs.Settled.{tables_of, Settled}
 use Rattle.osc_parts.specs.Jobs.{AllWriteWhere}
