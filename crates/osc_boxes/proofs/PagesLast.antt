@@ -25,7 +25,8 @@ use Rattle.osc_showing.specs.Showing.{clears}
 use Rattle.osc_showing.specs.PlanTurns.{cleared_by}
 use Rattle.osc_relying.specs.Levels.{LevelsFit}
 use Rattle.osc_relying.specs.Relying.{flushes, may_keep, HasPage, Kept, Goes, PageOf}
-use Rattle.osc_lasting.specs.Lasting.{ReplacesAtFlush, StepsLast}
+use Rattle.osc_blocks.specs.Replacing.{ReplacesAtFlush}
+use Rattle.osc_lasting.specs.Lasting.{StepsLast}
 use Rattle.osc_boxes.proofs.GoingOn.{begun_go_on}
 
 -- what hart m's box is relied on for in one hand, it may be in another then

@@ -13,7 +13,8 @@ use Rattle.osc_safe.specs.Standing.{Stands}
 use Rattle.osc_records.specs.Agreeing.{is_start}
 use Rattle.osc_records.specs.Recorded.{AllRecorded}
 use Rattle.osc_relying.specs.Relying.{PageOf, TableOf, HasBox, Relies}
-use Rattle.osc_lasting.specs.Lasting.{ReplacesAtFlush, StepsLast}
+use Rattle.osc_blocks.specs.Replacing.{ReplacesAtFlush}
+use Rattle.osc_lasting.specs.Lasting.{StepsLast}
 
 -- the part of what is relied on that is about boxes
 pub record BoxesRely (s : State) (k : KernelState) : Type 0 where

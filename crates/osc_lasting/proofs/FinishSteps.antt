@@ -22,7 +22,8 @@ use Rattle.osc_showing.specs.Showing.{is_closed, clears}
 use Rattle.osc_showing.specs.PlanTurns.{cleared_by}
 use Rattle.osc_caches.specs.Going.{replaces, GoingPage}
 use Rattle.osc_relying.specs.Relying.{answer_for, flushes, may_keep, HasPage, Kept, Goes, HasTable, Made, Aside}
-use Rattle.osc_lasting.specs.Lasting.{LastsReturned, ReplacesAtFlush, FinishesLast}
+use Rattle.osc_blocks.specs.Replacing.{ReplacesAtFlush}
+use Rattle.osc_lasting.specs.Lasting.{LastsReturned, FinishesLast}
 
 -- ---- what a return leaves of one process
 record Left (k new : KernelState) (n pid : ℕ) (p : Process) : Type 0 where

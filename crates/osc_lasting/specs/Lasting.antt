@@ -4,8 +4,7 @@ use Rattle.osc_word.specs.declared.calls.Request.{Request}
 use Rattle.osc_word.specs.declared.job_list.Job.{Job}
 use Rattle.osc_word.specs.declared.settings.HeapKind.TheVariants.{Oscar}
 use Rattle.osc_space.specs.Header.{Found}
-use Rattle.osc_space.specs.Space.{Keeps}
-use Rattle.osc_calls.specs.Kernel.{KernelState, Calling, Committed, Quiet, Waiting, Returning, next_job}
+use Rattle.osc_calls.specs.Kernel.{KernelState, Calling, Quiet, Waiting, next_job}
 use Rattle.osc_calls.specs.Begin.{begin}
 use Rattle.osc_calls.specs.Plan.{plan}
 use Rattle.osc_calls.specs.JobDone.{job_done}
@@ -13,7 +12,7 @@ use Rattle.osc_calls.specs.Finish.{finish}
 use Rattle.osc_settled.specs.Records.{ending}
 use Rattle.osc_settled.specs.KernelFits.{KernelFits}
 use Rattle.osc_showing.specs.Showing.{clears}
-use Rattle.osc_caches.specs.Going.{replaces}
+use Rattle.osc_blocks.specs.Replacing.{ReplacesAtFlush}
 use Rattle.osc_relying.specs.Levels.{LevelsFit}
 use Rattle.osc_relying.specs.Relying.{PageOf, TableOf}
 
@@ -38,10 +37,6 @@ pub record LastsReturned (old new : KernelState) : Type 0 where
   pub pages : (n pid page frame : ℕ) → n < old.config.harts → PageOf old n false pid page frame → PageOf new n false pid page frame
   pub tables : (n pid level page table : ℕ) → n < old.config.harts → (ending old.under_way ≡ Some pid → ⊥)
       → TableOf old n pid level page table → TableOf new n pid level page table
-
--- a call that gives nothing back replaced nothing
-abbrev pub ReplacesAtFlush : KernelState → Type 0
-ReplacesAtFlush k = (done : Committed) (object : ℕ) → k.under_way ≡ Returning done → done.closing ≡ Keeps → replaces done.answer object ≡ false
 
 -- ---- the laws, for each step of the kernel
 abbrev pub BeginsLast : Type 0

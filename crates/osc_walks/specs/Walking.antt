@@ -12,7 +12,8 @@ use Rattle.osc_safe.specs.Standing.{Stands}
 use Rattle.osc_records.specs.Recorded.{AllRecorded}
 use Rattle.osc_relying.specs.Relying.{PageOf, TableOf, Relies}
 use Rattle.osc_stored.specs.Beside.{BesideFits}
-use Rattle.osc_lasting.specs.Lasting.{ReplacesAtFlush, StepsLast}
+use Rattle.osc_blocks.specs.Replacing.{ReplacesAtFlush}
+use Rattle.osc_lasting.specs.Lasting.{StepsLast}
 use Rattle.osc_walks.specs.Canonical.{AllCanonical}
 use Rattle.osc_walks.specs.Roots.{RootsOpen}
 
