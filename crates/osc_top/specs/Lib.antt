@@ -3,3 +3,4 @@ pub mod Due
 pub mod Loading
 pub mod Answer
 pub mod Deciding
+pub mod Safety
