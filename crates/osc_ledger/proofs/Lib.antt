@@ -1,0 +1,9 @@
+pub mod Accounts
+pub mod HeapTells
+pub mod PlainTells
+pub mod Returned
+pub mod ToldCounts
+pub mod CallTells
+pub mod ThreadTells
+pub mod ReplaySteps
+pub mod ReplayRuns
