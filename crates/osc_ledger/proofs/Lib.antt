@@ -7,3 +7,5 @@ pub mod CallTells
 pub mod ThreadTells
 pub mod ReplaySteps
 pub mod ReplayRuns
+pub mod Wants
+pub mod ByRule

@@ -64,7 +64,7 @@ ledger-there [] pid l = absurd (let z : ⊥ = omega (arith, l) in z)
 ledger-there (x ∷ ls) zero l = refl
 ledger-there (x ∷ ls) (suc pid) l = ledger-there ls pid (omega (arith, l))
 
-same-length : (ls : List Ledger) (ps : List Process) → map account_told ls ≡ map account_kept ps → length ls ≡ length ps
+pub same-length : (ls : List Ledger) (ps : List Process) → map account_told ls ≡ map account_kept ps → length ls ≡ length ps
 same-length ls ps e = sym (length-map ls account_told) ∙ ap (λ (xs : List Account). length xs) e ∙ length-map ps account_kept
 
 -- ---- a kernel whose call under way is not committed keeps its processes when it is given back
