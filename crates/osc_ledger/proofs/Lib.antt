@@ -9,3 +9,5 @@ pub mod ReplaySteps
 pub mod ReplayRuns
 pub mod Wants
 pub mod ByRule
+pub mod TableSteps
+pub mod GivenUp
