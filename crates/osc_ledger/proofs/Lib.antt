@@ -11,3 +11,7 @@ pub mod Wants
 pub mod ByRule
 pub mod TableSteps
 pub mod GivenUp
+pub mod AddedTables
+pub mod HasTables
+pub mod HeapTables
+pub mod HeapRows
