@@ -40,7 +40,7 @@ Has s l t = HasTables (λ level number. has_piece level number (ever_mapped s l)
 abbrev shadow-range : ℕ → Block → List ℕ
 shadow-range first block = range_with_len first (shadow_pages block.room)
 
-shadows-add : (first : ℕ) (block : Block) (d : Draft) → Adds (shadow-range first block) d.space.tables (map_shadows first block d).space.tables
+pub shadows-add : (first : ℕ) (block : Block) (d : Draft) → Adds (shadow-range first block) d.space.tables (map_shadows first block d).space.tables
 shadows-add first block d =
     subst (λ n. Adds (range_with_len first n) d.space.tables (map_shadows first block d).space.tables) (length-map-range_with_len (λ page. read_write_at (frame_at d.space.heap.pages page)) (block.start / 4096) (shadow_pages block.room))
     (pages-add first (block_mappings d.space.heap.pages block) (record { tables = d.space.tables; free = d.free; jobs = d.jobs }))

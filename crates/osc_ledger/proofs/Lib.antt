@@ -15,3 +15,5 @@ pub mod AddedTables
 pub mod HasTables
 pub mod HeapTables
 pub mod HeapRows
+pub mod Addresses
+pub mod HeapKeeps

@@ -1,3 +1,4 @@
 pub mod Replays
 pub mod Wanting
 pub mod Tables
+pub mod Given

@@ -1,17 +1,19 @@
 -- Which tables a process has, by the pages that it ever mapped. This project's own.
-use Rattle.std.specs.Prelude.{ℕ, suc, ◌≡◌, ◌<◌, ◌≤◌, ◌==◌, ◌&&◌, not, Bool, false, Some, is_some, List, length, slice_get}
+use Rattle.std.specs.Prelude.{ℕ, suc, ◌≡◌, ◌<◌, ◌≤◌, ◌==◌, ◌&&◌, not, Bool, true, false, Some, is_some, List, length, slice_get}
 use Rattle.std.specs.List.{list_any}
 use Rattle.osc_word.specs.declared.settings.HeapKind.TheVariants.{Oscar}
-use Rattle.osc_word.specs.declared.steps.Label.{Label}
+use Rattle.osc_word.specs.declared.calls.Call.{Call}
+use Rattle.osc_word.specs.declared.calls.Call.TheVariants.{Malloc, Free, Realloc}
 use Rattle.osc_sv39.specs.Walk.{piece}
 use Rattle.osc_paging.specs.KeptTables.{KeptTables, levels_of, frame_of}
 use Rattle.osc_space.specs.Objects.{leaf_given_up}
 use Rattle.osc_space.specs.Share.{shared_pages}
-use Rattle.osc_calls.specs.Kernel.{KernelState, Process, process_at}
+use Rattle.osc_space.specs.Header.{Found}
+use Rattle.osc_calls.specs.Kernel.{KernelState, Process, Calling, Waiting, process_at}
+use Rattle.osc_calls.specs.Plan.{plan_of}
 use Rattle.osc_settled.specs.KernelFits.{KernelFits}
-use Rattle.osc_machine.specs.Replay.{Ledger, replay}
+use Rattle.osc_machine.specs.Replay.{Ledger, ledger_at, told_by, replay}
 use Rattle.osc_machine.specs.Refusals.{Setting, region_pages, ever_mapped}
-use Rattle.osc_safe.specs.KernelSteps.{KernelStep}
 use Rattle.osc_ledger.specs.Replays.{ReplayFits}
 use Rattle.osc_ledger.specs.Wanting.{setting}
 
@@ -31,15 +33,18 @@ pub record TablesTold (s : Setting) (l : Ledger) (t : KeptTables) : Type 0 where
   pub above : (level number : ℕ) → t.top ≤ level → is_some (frame_of t.tables level number) ≡ ((t.top == level) && (0 == number))
   pub regions : length (shared_pages t) ≡ region_pages l.regions
 
--- so it is for each process of which the journal does not tell the end
-abbrev pub TablesFit : Setting → KernelState → Type 0
-TablesFit s k =
-    (pid : ℕ) (l : Ledger) (p : Process) → slice_get (replay s.config k.journal) pid ≡ Some l → process_at k pid ≡ Some p
-    → l.over ≡ false → TablesTold s l p.space.tables
+-- ---- the law
+abbrev pub is_heap_call : Call → Bool
+is_heap_call (Malloc size) = true
+is_heap_call (Free pointer) = true
+is_heap_call (Realloc pointer size) = true
+is_heap_call _ = false
 
--- on the heap with shadows each step keeps that
-abbrev pub StepsKeepTables : Type 0
-StepsKeepTables =
-    (words image : List ℕ) (old new : KernelState) (shows : List Label)
-    → KernelFits words old → KernelStep old new shows → old.config.heap ≡ Oscar → ReplayFits old
-    → TablesFit (setting old image) old → TablesFit (setting new image) new
+-- on the heap with shadows the plan of each call on it keeps that of its process, refused or not
+abbrev pub HeapPlansKeepTables : Type 0
+HeapPlansKeepTables =
+    (words image : List ℕ) (found : Found) (k : KernelState) (c : Calling) (p q : Process)
+    → KernelFits words k → k.under_way ≡ Waiting c → process_at k c.pid ≡ Some p → ReplayFits k → k.config.heap ≡ Oscar → is_heap_call c.call ≡ true
+    → TablesTold (setting k image) (ledger_at (replay k.config k.journal) c.pid) p.space.tables
+    → process_at (plan_of found c p k).kernel c.pid ≡ Some q
+    → TablesTold (setting k image) (told_by k.config (length k.journal) c.call (plan_of found c p k).answer (ledger_at (replay k.config k.journal) c.pid)) q.space.tables

@@ -1,6 +1,8 @@
 //! The laws of the journal. Each function does nothing: what it says is proved of the definitions.
 
 ghost use Rattle.osc_ledger.specs.Replays.{StepsKeepReplay, RunsFitReplay, RunsAgreeWithReplay};
+ghost use Rattle.osc_ledger.specs.Wanting.{PlansAnswerByRule};
+ghost use Rattle.osc_ledger.specs.Given.{PlansGiveTold};
 
 /// At every moment of a run the journal tells what the kernel keeps of each process: its objects, those that
 /// wait and its held blocks, as they are once the call under way has given back what it left; how many harts
@@ -10,4 +12,15 @@ pub fn replay_fits()
     ensures steps { StepsKeepReplay }
     ensures runs { RunsFitReplay }
     ensures home { RunsAgreeWithReplay }
+{}
+
+/// The plan of each call answers by the rule of refusals, where the frames that the journal tells are those
+/// of the kernel; a spawn, and each call that is never refused for want of frames, always.
+pub fn plans_answer_by_rule()
+    ensures { PlansAnswerByRule }
+{}
+
+/// A malloc gives the address that the mark and the least slot of the journal's ledger say.
+pub fn plans_give_told()
+    ensures { PlansGiveTold }
 {}
