@@ -2,7 +2,8 @@
 use Rattle.std.proofs.Common.{ℕ, zero, suc, ◌+◌, ◌/◌, ◌≡◌, ◌≢◌, ◌<◌, ◌≤◌, ◌==◌, Bool, true, false, cond, Option, Some, None, is_some, List, [], ◌∷◌, ◌++◌, length, map, arith, refl, sym, ap, subst, ◌∙◌}
 use Rattle.std.specs.List.{list_any, range_with_len}
 use Rattle.std.proofs.lemmas.Bool.Decides.{nat_tests}
-use Rattle.osc_word.specs.declared.settings.HeapKind.TheVariants.{Oscar}
+use Rattle.osc_word.specs.declared.settings.HeapKind.{HeapKind}
+use Rattle.osc_word.specs.declared.settings.HeapKind.TheVariants.{Oscar, Plain}
 use Rattle.osc_word.specs.declared.calls.Call.{Call}
 use Rattle.osc_word.specs.declared.calls.Call.TheVariants as calls
 use Rattle.osc_word.specs.declared.calls.Answer.{Answer}
@@ -44,7 +45,7 @@ use Rattle.osc_safe.proofs.SpacePlans.{Refuses, first_refuses, seen-fact}
 use Rattle.osc_ledger.specs.Wanting.{setting}
 use Rattle.osc_ledger.specs.Tables.{TablesTold}
 use Rattle.osc_ledger.proofs.Accounts.{as_kept, kill-grant}
-use Rattle.osc_ledger.proofs.HeapTells.{told_keeps, with_space, fresh-is}
+use Rattle.osc_ledger.proofs.HeapTells.{told_keeps, refused_tells, with_space, fresh-is}
 use Rattle.osc_ledger.proofs.AddedTables.{there, Adds}
 use Rattle.osc_ledger.proofs.HasTables.{HasTables, same-tables, unmap-tables, flush-top}
 use Rattle.osc_ledger.proofs.HeapTables.{last-live}
@@ -189,3 +190,90 @@ module _ (words image : List ℕ) (found : Found) (k : KernelState) (c : Calling
             moved-keeps s0 at alive block size (drops (block_of s0.fact ∷ []) (lets_go (gains size (fresh_block k.config (room_of size) base) (loses s0.number n base)))) e last
             (ap (λ (b : Block). grant (shadow_pages b.room) size (b.start + 16) (kill s0.number n p.space.objects)) fresh
             ∙ sym (kill-grant s0.number n (shadow_pages block.room) size (block.start + 16) p.space.objects within)) refl refl refl refl refl un.0 un.1 refl (ap (λ (x : Space). x.tables) made) (ap (λ (x : Space). x.objects) made)
+
+  -- ---- the plans
+  -- what a plan on this memory leaves
+  pub record Leaves (o : Outcome) : Type 0 where
+    pub free : List Bool
+    pub after : List ℕ
+    pub agree : Agrees o.draft.space.tables free after
+    pub mapped : (page : ℕ) → first_shadow_page ≤ page → page < next_page o.draft.space.objects → is_live_page o.draft.space.objects page ≡ true → mapping_at o.draft.space.tables.pages page ≢ None
+
+  abbrev pub Keeps-by : Call → Outcome → Type 0
+  Keeps-by call o = Kept s (told_by k.config n call o.answer base) p.space.tables o.draft.space.tables
+
+  by-reasons : (call : Call) (r : Option Answer) (made : Outcome) → Refuses r → (r ≡ None → Leaves made → Keeps-by call made) → Leaves (unless r d made) → Keeps-by call (unless r d made)
+  by-reasons call None made e f w = f refl w
+  by-reasons call (Some x) made e f w = stays-as call x (refused_tells x e)
+
+  malloc-plan-keeps : (call : Call) (size : ℕ) → ((object pointer : ℕ) → told_by k.config n call (answers.Given object pointer) base ≡ gains size (fresh_block k.config (room_of size) base) base)
+      → Leaves (malloc_plan size d) → Keeps-by call (malloc_plan size d)
+  unfolding malloc_plan
+  malloc-plan-keeps call size is =
+      by-reasons call (first_reason (malloc_reasons size d)) (malloc_in size (next_block d.space.heap (room_of size)) d) (first_refuses (malloc_reasons size d) (refl, (refl, tt)))
+      (λ e w. subst (λ m. Kept s m p.space.tables (malloc_in size (next_block d.space.heap (room_of size)) d).draft.space.tables) (sym (is _ _))
+      (malloc-keeps (malloc_in size (next_block d.space.heap (room_of size)) d).draft.space w.free w.after w.agree w.mapped call size is refl))
+
+  -- an object that is not refused lives
+  lives-where : (s0 : Seen) → first_reason (object_reasons (Some s0) found) ≡ None → is_live s0.fact ≡ true
+  lives-where s0 e = go s0.fact.state refl
+    where
+      go : (state : ObjectState) → s0.fact.state ≡ state → is_live_state s0.fact.state ≡ true
+      go Live f = ap is_live_state f
+      go (Dead call) f = (let x = sym ((object_refused s0 found).dead call f) ∙ e in absurd (let z : ⊥ = grind (arith, x) in z))
+
+  not-first : (s0 : Seen) (size : ℕ) → first_reason (realloc_reasons (Some s0) size found d) ≡ None → first_reason (object_reasons (Some s0) found) ≡ None
+  not-first s0 size e = go (first_reason (object_reasons (Some s0) found)) refl
+    where
+      go : (x : Option Answer) → first_reason (object_reasons (Some s0) found) ≡ x → first_reason (object_reasons (Some s0) found) ≡ None
+      go None f = f
+      go (Some y) f = (let x = sym ((realloc_refused s0 size found d).object y f) ∙ e in absurd (let z : ⊥ = grind (arith, x) in z))
+
+  free-plan-keeps : (pointer : ℕ) → Leaves (free_plan (terms_of k) pointer found d) → Keeps-by (calls.Free pointer) (free_plan (terms_of k) pointer found d)
+  unfolding free_plan
+  free-plan-keeps pointer = go (object_at d.space.objects pointer) (λ s0 e. seen-fact d.space.objects pointer s0 e)
+    where
+      go : (o : Option Seen) → ((s0 : Seen) → o ≡ Some s0 → fact p.space.objects s0.number ≡ Some s0.fact) → Leaves (free_seen o (terms_of k) found d) → Keeps-by (calls.Free pointer) (free_seen o (terms_of k) found d)
+      go None f = λ w. stays-as (calls.Free pointer) answers.NotAnObject refl
+      go (Some s0) f =
+          by-reasons (calls.Free pointer) (first_reason (object_reasons (Some s0) found)) (freed s0.number (terms_of k) (let_wait (terms_of k) s0 d)) (first_refuses (object_reasons (Some s0) found) (object_refuses s0 found))
+          (λ e w. freed-keeps (freed s0.number (terms_of k) (let_wait (terms_of k) s0 d)).draft.space w.free w.after w.agree w.mapped s0 (f s0 refl) (lives-where s0 e) refl)
+
+  free-of-keeps : (pointer : ℕ) → Leaves (free_of Oscar (terms_of k) pointer found d) → Keeps-by (calls.Free pointer) (free_of Oscar (terms_of k) pointer found d)
+  free-of-keeps pointer = go (pointer == 0) refl
+    where
+      go : (b : Bool) → (pointer == 0) ≡ b → Leaves (cond b (unchanged answers.Nothing d) (free_by Oscar (terms_of k) pointer found d)) → Keeps-by (calls.Free pointer) (cond b (unchanged answers.Nothing d) (free_by Oscar (terms_of k) pointer found d))
+      go true e w = record { has = nothing; top = refl }
+        where
+          nothing : Has s (told_by k.config n (calls.Free pointer) answers.Nothing base) p.space.tables
+          nothing = record { below = h.below; above = h.above }
+      go false e w = free-plan-keeps pointer w
+
+  realloc-plan-keeps : (pointer size : ℕ) → p.space.heap.frames ≡ k.config.frames → Leaves (realloc_plan (terms_of k) pointer size found d) → Keeps-by (calls.Realloc pointer size) (realloc_plan (terms_of k) pointer size found d)
+  unfolding realloc_plan
+  realloc-plan-keeps pointer size frames = go (object_at d.space.objects pointer) (λ s0 e. seen-fact d.space.objects pointer s0 e)
+    where
+      go : (o : Option Seen) → ((s0 : Seen) → o ≡ Some s0 → fact p.space.objects s0.number ≡ Some s0.fact) → Leaves (realloc_seen o (terms_of k) size found d) → Keeps-by (calls.Realloc pointer size) (realloc_seen o (terms_of k) size found d)
+      go None f = λ w. stays-as (calls.Realloc pointer size) answers.NotAnObject refl
+      go (Some s0) f =
+          by-reasons (calls.Realloc pointer size) (first_reason (realloc_reasons (Some s0) size found d)) (realloc_made (stays s0.fact size) (terms_of k) s0 size d) (first_refuses (realloc_reasons (Some s0) size found d) (realloc_refuses s0 size found d))
+          (λ e w. subst (λ o. Kept s (replaces k.config s0.number n o size base) p.space.tables (realloc_made (stays s0.fact size) (terms_of k) s0 size d).draft.space.tables) (sym (f s0 refl))
+          (realloced-keeps (realloc_made (stays s0.fact size) (terms_of k) s0 size d).draft.space w.free w.after w.agree w.mapped s0 (f s0 refl) (lives-where s0 (not-first s0 size e)) size frames refl))
+
+  -- ---- by the kind of heap
+  not-plain : {A : Type 0} → k.config.heap ≡ Plain → A
+  not-plain e = absurd (let x : Oscar ≡ Plain = sym heap ∙ e in let z : ⊥ = grind (arith, x) in z)
+
+  pub malloc-by-keeps : (call : Call) (size : ℕ) (kind : HeapKind) → k.config.heap ≡ kind → ((object pointer : ℕ) → told_by k.config n call (answers.Given object pointer) base ≡ gains size (fresh_block k.config (room_of size) base) base)
+      → Leaves (malloc_by kind size d) → Keeps-by call (malloc_by kind size d)
+  malloc-by-keeps call size Oscar e is w = malloc-plan-keeps call size is w
+  malloc-by-keeps call size Plain e is w = not-plain e
+
+  pub free-by-keeps : (pointer : ℕ) (kind : HeapKind) → k.config.heap ≡ kind → Leaves (free_of kind (terms_of k) pointer found d) → Keeps-by (calls.Free pointer) (free_of kind (terms_of k) pointer found d)
+  free-by-keeps pointer Oscar e w = free-of-keeps pointer w
+  free-by-keeps pointer Plain e w = not-plain e
+
+  pub realloc-by-keeps : (pointer size : ℕ) (kind : HeapKind) → k.config.heap ≡ kind → p.space.heap.frames ≡ k.config.frames
+      → Leaves (realloc_by kind (terms_of k) pointer size found d) → Keeps-by (calls.Realloc pointer size) (realloc_by kind (terms_of k) pointer size found d)
+  realloc-by-keeps pointer size Oscar e frames w = realloc-plan-keeps pointer size frames w
+  realloc-by-keeps pointer size Plain e frames w = not-plain e

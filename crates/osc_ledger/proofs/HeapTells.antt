@@ -40,7 +40,7 @@ told_keeps config n call a l e = head _ _ _ (noted_keeps config n (record { pid 
     head : (x y : Ledger) (rest : List Ledger) → x ∷ rest ≡ y ∷ [] → x ≡ y
     head x y rest e = cc
 
-refused_tells : (a : Answer) → is_refusal a ≡ true → tells_nothing a ≡ true
+pub refused_tells : (a : Answer) → is_refusal a ≡ true → tells_nothing a ≡ true
 refused_tells answers.NoShadow e = refl
 refused_tells answers.NoFrames e = refl
 refused_tells answers.Empty e = refl

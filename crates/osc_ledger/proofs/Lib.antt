@@ -17,3 +17,5 @@ pub mod HeapTables
 pub mod HeapRows
 pub mod Addresses
 pub mod HeapKeeps
+pub mod HeapLaw
+pub mod NeedTold

@@ -2,3 +2,4 @@ pub mod Replays
 pub mod Wanting
 pub mod Tables
 pub mod Given
+pub mod Needs

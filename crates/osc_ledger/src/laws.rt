@@ -2,6 +2,8 @@
 
 ghost use Rattle.osc_ledger.specs.Replays.{StepsKeepReplay, RunsFitReplay, RunsAgreeWithReplay};
 ghost use Rattle.osc_ledger.specs.Wanting.{PlansAnswerByRule};
+ghost use Rattle.osc_ledger.specs.Tables.{HeapPlansKeepTables};
+ghost use Rattle.osc_ledger.specs.Needs.{ShadowNeedIsTold};
 ghost use Rattle.osc_ledger.specs.Given.{PlansGiveTold};
 
 /// At every moment of a run the journal tells what the kernel keeps of each process: its objects, those that
@@ -23,4 +25,16 @@ pub fn plans_answer_by_rule()
 /// A malloc gives the address that the mark and the least slot of the journal's ledger say.
 pub fn plans_give_told()
     ensures { PlansGiveTold }
+{}
+
+/// On the heap with shadows the plan of a malloc, a free or a realloc, refused or not, leaves its process
+/// exactly the tables that the journal tells: of the pages that it ever mapped, less the leaf tables that
+/// were given up.
+pub fn heap_plans_keep_tables()
+    ensures { HeapPlansKeepTables }
+{}
+
+/// Where a process has the tables that are told, fresh shadow pages take as many tables as the journal tells.
+pub fn shadow_need_is_told()
+    ensures { ShadowNeedIsTold }
 {}
