@@ -19,3 +19,4 @@ pub mod Addresses
 pub mod HeapKeeps
 pub mod HeapLaw
 pub mod NeedTold
+pub mod RunsByRule

@@ -55,11 +55,11 @@ opens-fit image config some = record {
 
 -- ---- runs
 -- the one kernel of a state
-record Stand (config : Config) (s : State) : Type 0 where
-  kernel : KernelState
-  has : HasKernel s kernel
-  fit : ReplayFits kernel
-  same : kernel.config ≡ config
+pub record Stand (config : Config) (s : State) : Type 0 where
+  pub kernel : KernelState
+  pub has : HasKernel s kernel
+  pub fit : ReplayFits kernel
+  pub same : kernel.config ≡ config
 
 fit-on : (config : Config) (picks : List ℕ) (ran : Ran) → Both ran → Stand config ran.state → Stand config (run_on picks ran).state
 unfolding run_on
@@ -79,7 +79,7 @@ unfolding start_of
 starts-fit image config some =
     record { kernel = open_kernel image config; has = start_has_kernel image config (open_kernel image config); fit = opens-fit image config some; same = opens-config image config }
 
-stands-at : (file : List ℕ) (image : Image) (config : Config) (picks : List ℕ) → first_fault config ≡ None → image_of file ≡ Ok image → needed_frames config.levels image ≤ config.frames
+pub stands-at : (file : List ℕ) (image : Image) (config : Config) (picks : List ℕ) → first_fault config ≡ None → image_of file ≡ Ok image → needed_frames config.levels image ≤ config.frames
     → Stand config (run (start_of image config) picks).state
 stands-at file image config picks fit is_image room =
     fit-on config picks (first_ran image config) (started-both file image config fit is_image room) (starts-fit image config (let r = ranges config fit in let l = r.harts in omega (arith, l)))

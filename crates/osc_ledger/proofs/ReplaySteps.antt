@@ -218,7 +218,10 @@ same-taken k u old new = record {
   accounts = ap (map account_kept) (uncommitted (record k { under_way = u }) new ∙ sym (uncommitted k old));
 }
 
-room-there : (o : Option Process) (c : Calling) (k : KernelState) → begun_in o c k ≡ begun.Planned → has_journal_room k ≡ true
+pub same-waiting : (k : KernelState) (c : Calling) → IsUncommitted k.under_way → ReplayFits k → ReplayFits (record k { under_way = Waiting c })
+same-waiting k c waits f = (told-on k (record k { under_way = Waiting c }) (same-taken k (Waiting c) waits tt) f).fits
+
+pub room-there : (o : Option Process) (c : Calling) (k : KernelState) → begun_in o c k ≡ begun.Planned → has_journal_room k ≡ true
 room-there None c k e = absurd (let z : ⊥ = cc in z)
 room-there (Some p) c k e = go (is_ready k c.pid c.call) (has_journal_room k) e
   where
@@ -228,7 +231,7 @@ room-there (Some p) c k e = go (is_ready k c.pid c.call) (has_journal_room k) e
     go true false g = absurd (let z : ⊥ = cc in z)
 
 -- while the call waits the kernel fits still
-fits-waiting : (words : List ℕ) (k : KernelState) (c : Calling) → KernelFits words k → k.under_way ≡ Quiet → has_journal_room k ≡ true → slice_get k.records c.hart ≡ Some (Runs c.pid c.thread)
+pub fits-waiting : (words : List ℕ) (k : KernelState) (c : Calling) → KernelFits words k → k.under_way ≡ Quiet → has_journal_room k ≡ true → slice_get k.records c.hart ≡ Some (Runs c.pid c.thread)
     → KernelFits words (record k { under_way = Waiting c })
 fits-waiting words k c f u room e =
     let r = at_rest words k f u in record {
@@ -314,11 +317,11 @@ done-on word k f =
 
 -- ---- the kernel is given back
 -- what a return leaves
-record Left (k m : KernelState) : Type 0 where
-  config : m.config ≡ k.config
-  journal : m.journal ≡ k.journal
-  threads : length m.threads ≡ length k.threads
-  records : (pid : ℕ) → running m.records pid ≡ running k.records pid
+pub record Left (k m : KernelState) : Type 0 where
+  pub config : m.config ≡ k.config
+  pub journal : m.journal ≡ k.journal
+  pub threads : length m.threads ≡ length k.threads
+  pub records : (pid : ℕ) → running m.records pid ≡ running k.records pid
 
 settled-left : (done : Committed) (p : Process) (effect : Effect) (k : KernelState) → Left k (settled done p effect k)
 settled-left done p (Ends status) k = record { config = refl; journal = refl; threads = refl; records = λ pid. refl }
@@ -340,7 +343,7 @@ hart-left hart (Some kept) k e = record {
   records = λ pid. (let put = put-runs k.records hart pid kept (record_left kept) (runs pid kept) (runs pid kept) e refl (left-runs pid kept) in omega (arith, put));
 }
 
-finish-left : (k : KernelState) → Left k (finish k).kernel
+pub finish-left : (k : KernelState) → Left k (finish k).kernel
 unfolding finish
 finish-left k = go k.under_way
   where

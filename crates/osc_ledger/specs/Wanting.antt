@@ -18,7 +18,7 @@ use Rattle.osc_space.specs.Objects.{mark, next_page}
 use Rattle.osc_space.specs.Header.{Found}
 use Rattle.osc_space.specs.Fork.{private_frames}
 use Rattle.osc_space.specs.Share.{next_shared_page}
-use Rattle.osc_calls.specs.Kernel.{KernelState, Process, Calling, Waiting, process_at, idle_hart}
+use Rattle.osc_calls.specs.Kernel.{KernelState, Process, Calling, UnderWay, Waiting, Returning, process_at, idle_hart}
 use Rattle.osc_calls.specs.Plan.{plan_of}
 use Rattle.osc_settled.specs.KernelFits.{KernelFits}
 use Rattle.osc_machine.specs.Run.{at}
@@ -67,3 +67,16 @@ PlansAnswerByRule =
     → (wants_frames c.call ≡ true → FramesTold (setting k image) k)
     → faults c.call (plan_of found c p k).answer ≡ false
     → IsAnswered (refusal_told (setting k image) k.journal (is_some (idle_hart k.records)) c.pid c.call) c.call (plan_of found c p k).answer
+
+-- no call is committed that has not returned
+abbrev pub is_committed : UnderWay → Bool
+is_committed (Returning done) = true
+is_committed _ = false
+
+-- a run in which the frames are told wherever a call may commit answers by the rule
+abbrev pub RunsAnswerByRule : Type 0
+RunsAnswerByRule =
+    (file : List ℕ) (image : Image) (config : Config) (picks : List ℕ)
+    → first_fault config ≡ None → image_of file ≡ Ok image → needed_frames config.levels image ≤ config.frames
+    → ((i : ℕ) (k : KernelState) → HasKernel (at (start_of image config) picks i).state k → is_committed k.under_way ≡ false → FramesTold (setting_of image config) k)
+    → RefusesByRule (setting_of image config) (start_of image config) picks

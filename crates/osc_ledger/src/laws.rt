@@ -1,7 +1,7 @@
 //! The laws of the journal. Each function does nothing: what it says is proved of the definitions.
 
 ghost use Rattle.osc_ledger.specs.Replays.{StepsKeepReplay, RunsFitReplay, RunsAgreeWithReplay};
-ghost use Rattle.osc_ledger.specs.Wanting.{PlansAnswerByRule};
+ghost use Rattle.osc_ledger.specs.Wanting.{PlansAnswerByRule, RunsAnswerByRule};
 ghost use Rattle.osc_ledger.specs.Tables.{HeapPlansKeepTables};
 ghost use Rattle.osc_ledger.specs.Needs.{ShadowNeedIsTold};
 ghost use Rattle.osc_ledger.specs.Given.{PlansGiveTold};
@@ -17,9 +17,11 @@ pub fn replay_fits()
 {}
 
 /// The plan of each call answers by the rule of refusals, where the frames that the journal tells are those
-/// of the kernel; a spawn, and each call that is never refused for want of frames, always.
+/// of the kernel; a spawn, and each call that is never refused for want of frames, always. So is each entry
+/// of a run in which they are so wherever a call may commit.
 pub fn plans_answer_by_rule()
-    ensures { PlansAnswerByRule }
+    ensures plans { PlansAnswerByRule }
+    ensures runs { RunsAnswerByRule }
 {}
 
 /// A malloc gives the address that the mark and the least slot of the journal's ledger say.
