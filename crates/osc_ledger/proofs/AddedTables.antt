@@ -1,15 +1,14 @@
 -- Tables that are added over pages, and leaf tables that a flush gives up.
-use Rattle.std.proofs.Common.{ℕ, zero, suc, ◌+◌, ◌*◌, ◌/◌, ◌≡◌, ◌≢◌, ◌<◌, ◌≤◌, ◌==◌, ◌&&◌, ◌||◌, not, Bool, true, false, cond, Option, Some, None, is_some, List, [], ◌∷◌, length, position, arith, refl, sym, ap, subst, ◌∙◌}
+use Rattle.std.proofs.Common.{ℕ, zero, suc, ◌+◌, ◌/◌, ◌≡◌, ◌≢◌, ◌<◌, ◌≤◌, ◌==◌, ◌&&◌, ◌||◌, Bool, true, false, cond, Option, Some, None, is_some, List, [], ◌∷◌, length, position, arith, refl, sym, ap, subst, ◌∙◌}
 use Rattle.std.specs.List.{list_any, range_with_len}
 use Rattle.std.proofs.lemmas.Bool.Decides.{nat_tests}
 use Rattle.osc_sv39.specs.declared.entries.Mapping.{Mapping}
 use Rattle.osc_sv39.specs.Walk.{piece}
 use Rattle.osc_paging.specs.KeptTables.{KeptTables, frame_of, mapping_at}
 use Rattle.osc_paging.specs.TableChanges.{Changed, linked, link, link_all, map_page, map_pages}
-use Rattle.osc_paging.specs.TableLaws.{StandAbove}
 use Rattle.osc_paging.specs.Agree.{Agrees}
 use Rattle.osc_paging.proofs.TableLists.{frame_of-with_table}
-use Rattle.osc_paging.proofs.Needed.{put-tables, link_all-top, map_page-top}
+use Rattle.osc_paging.proofs.Needed.{put-tables, map_page-top}
 use Rattle.osc_paging.proofs.TableLawProofs.{tables_stand_above}
 use Rattle.osc_ledger.specs.Tables.{has_piece}
 

@@ -1,5 +1,5 @@
 -- A malloc gives the address that the journal tells.
-use Rattle.std.proofs.Common.{ℕ, ◌+◌, ◌≡◌, ◌==◌, Bool, true, false, Option, Some, None, List, length, map, arith, refl, sym, ap, subst, ◌∙◌}
+use Rattle.std.proofs.Common.{ℕ, ◌≡◌, true, Option, Some, None, map, arith, refl, sym, ap, subst, ◌∙◌}
 use Rattle.osc_word.specs.declared.settings.HeapKind.{HeapKind}
 use Rattle.osc_word.specs.declared.settings.HeapKind.TheVariants.{Oscar, Plain}
 use Rattle.osc_word.specs.declared.settings.Config.{Config}
@@ -15,14 +15,14 @@ use Rattle.osc_space.specs.Space.{Draft, Outcome, first_reason, unless}
 use Rattle.osc_space.specs.Malloc.{malloc_reasons, malloc_in, malloc_plan}
 use Rattle.osc_space.specs.PlainHeap.{plain_reasons, plain_malloc_in, plain_malloc_plan}
 use Rattle.osc_space.specs.RefusalLaws.{is_refusal}
-use Rattle.osc_calls.specs.Kernel.{KernelState, Process, Calling, process_at}
+use Rattle.osc_calls.specs.Kernel.{KernelState, Process, Calling}
 use Rattle.osc_calls.specs.Refusals.{draft_of}
 use Rattle.osc_calls.specs.HeapPlans.{malloc_by}
 use Rattle.osc_calls.specs.Requests.{meant}
 use Rattle.osc_calls.specs.Plan.{plan_meant}
-use Rattle.osc_settled.proofs.Outcomes.{Asks, asks}
+use Rattle.osc_settled.proofs.Outcomes.{asks}
 use Rattle.osc_settled.proofs.Answering.{settled}
-use Rattle.osc_machine.specs.Replay.{Ledger, ledger_at, fresh_block, replay}
+use Rattle.osc_machine.specs.Replay.{Ledger, ledger_at, replay}
 use Rattle.osc_machine.specs.Agreements.{account_kept}
 use Rattle.osc_safe.proofs.SpacePlans.{Refuses, first_refuses}
 use Rattle.osc_ledger.specs.Given.{AddressTold, PlansGiveTold}

@@ -1,5 +1,5 @@
 -- The plan of each call answers by the rule of refusals.
-use Rattle.std.proofs.Common.{ℕ, ◌≡◌, ◌==◌, Bool, true, false, cond, Option, Some, None, is_some, unwrap_or, option_map, find, List, [], ◌∷◌, ◌++◌, length, map, arith, refl, sym, ap, subst, ◌∙◌}
+use Rattle.std.proofs.Common.{ℕ, ◌≡◌, ◌==◌, Bool, true, false, cond, Option, Some, None, is_some, unwrap_or, option_map, find, List, [], ◌∷◌, ◌++◌, map, arith, refl, sym, ap, subst, ◌∙◌}
 use Rattle.std.proofs.lemmas.Bool.Decides.{nat_tests}
 use Rattle.osc_word.specs.declared.settings.HeapKind.{HeapKind}
 use Rattle.osc_word.specs.declared.settings.HeapKind.TheVariants.{Oscar, Plain}
@@ -7,7 +7,7 @@ use Rattle.osc_word.specs.declared.calls.Call.{Call}
 use Rattle.osc_word.specs.declared.calls.Call.TheVariants as calls
 use Rattle.osc_word.specs.declared.calls.Answer.{Answer}
 use Rattle.osc_word.specs.declared.calls.Answer.TheVariants as answers
-use Rattle.osc_class.specs.Rooms.{room_of, shadow_pages}
+use Rattle.osc_class.specs.Rooms.{room_of}
 use Rattle.osc_slot.specs.declared.Block.{Block}
 use Rattle.osc_slot.specs.Slots.{is_room}
 use Rattle.osc_slot.specs.Heap.{next_block, block_of_user}
@@ -17,10 +17,10 @@ use Rattle.osc_space.specs.declared.ObjectState.TheVariants.{Live, Dead}
 use Rattle.osc_space.specs.Objects.{Seen, object_at}
 use Rattle.osc_space.specs.Agree.{HeapAgrees, ObjectsAgree}
 use Rattle.osc_space.specs.Header.{Found, death_reasons, damage_reason, object_reasons, block_of}
-use Rattle.osc_space.specs.Space.{Draft, Outcome, Terms, Reason, first_reason, unchanged, unless}
-use Rattle.osc_space.specs.Malloc.{memory_reasons, malloc_reasons, malloc_in, malloc_plan}
+use Rattle.osc_space.specs.Space.{Draft, Outcome, Reason, first_reason, unchanged, unless}
+use Rattle.osc_space.specs.Malloc.{malloc_reasons, malloc_in, malloc_plan}
 use Rattle.osc_space.specs.Free.{let_wait, freed, free_seen, free_plan}
-use Rattle.osc_space.specs.Realloc.{stays, frames_for, realloc_reasons, realloc_made, realloc_seen, realloc_plan}
+use Rattle.osc_space.specs.Realloc.{stays, realloc_reasons, realloc_made, realloc_seen, realloc_plan}
 use Rattle.osc_space.specs.PlainHeap.{plain_reasons, plain_malloc_in, plain_malloc_plan, plain_free_of, plain_free_plan, kept_bytes, plain_resize, plain_realloc_reasons, plain_realloc_of, plain_realloc_plan}
 use Rattle.osc_space.proofs.ObjectLawProofs.{looks_find_objects}
 use Rattle.osc_space.proofs.RefusalLawProofs.{realloc_refused}
@@ -29,7 +29,7 @@ use Rattle.osc_calls.specs.declared.JoinLook.TheVariants as joined
 use Rattle.osc_calls.specs.declared.WaitLook.{WaitLook}
 use Rattle.osc_calls.specs.declared.WaitLook.TheVariants as waits
 use Rattle.osc_calls.specs.CallLaws.{is_want, is_heap_fault}
-use Rattle.osc_calls.specs.Kernel.{KernelState, Process, Calling, Waiting, process_at, idle_hart, is_last}
+use Rattle.osc_calls.specs.Kernel.{KernelState, Process, Calling, process_at, idle_hart, is_last}
 use Rattle.osc_calls.specs.Threads.{join_look}
 use Rattle.osc_calls.specs.Requests.{meant, wait_look, join_answer, wait_answer}
 use Rattle.osc_calls.specs.Refusals.{draft_of, refusal_of}
@@ -37,8 +37,7 @@ use Rattle.osc_calls.specs.HeapPlans.{terms_of, malloc_by, free_by, free_of, rea
 use Rattle.osc_calls.specs.Planned.{Planned, planned_unless}
 use Rattle.osc_calls.specs.WritePlan.{write_by, first_unreadable, write_count}
 use Rattle.osc_calls.specs.ProcessPlans.{done_by, value_left, fork_done, spawn_done, share_done}
-use Rattle.osc_calls.specs.Plan.{plan_meant, plan_of}
-use Rattle.osc_settled.specs.KernelFits.{KernelFits}
+use Rattle.osc_calls.specs.Plan.{plan_meant}
 use Rattle.osc_settled.proofs.Commits.{lives_none}
 use Rattle.osc_settled.proofs.Outcomes.{Asks, asks, caller_lives}
 use Rattle.osc_settled.proofs.Answering.{settled}

@@ -1,14 +1,12 @@
 -- Which leaf tables are given up: a grant changes none, nor an object that is dead and waits.
-use Rattle.std.proofs.Common.{ℕ, zero, suc, ◌+◌, ◌*◌, ◌≡◌, ◌<◌, ◌≤◌, ◌==◌, ◌&&◌, ◌||◌, nat_lt, nat_le, not, Bool, true, false, cond, Option, Some, None, List, [], ◌∷◌, ◌++◌, length, slice_get, arith, refl, sym, ap, ◌∙◌}
+use Rattle.std.proofs.Common.{ℕ, zero, suc, ◌+◌, ◌*◌, ◌≡◌, ◌<◌, ◌≤◌, ◌==◌, ◌&&◌, ◌||◌, nat_lt, nat_le, not, Bool, true, false, Option, Some, None, List, [], ◌∷◌, ◌++◌, length, arith, refl, sym, ap, ◌∙◌}
 use Rattle.std.specs.List.{list_any, cons_option}
 use Rattle.std.proofs.lemmas.Bool.Decides.{nat_tests}
 use Rattle.std.proofs.lemmas.List.Folds.{list_any-append}
 use Rattle.std.proofs.lemmas.List.Elements.{filter_map-append}
 use Rattle.osc_word.specs.AddressMap.{first_shadow_page}
 use Rattle.osc_space.specs.declared.ObjectFact.{ObjectFact}
-use Rattle.osc_space.specs.declared.ObjectState.{ObjectState}
-use Rattle.osc_space.specs.declared.ObjectState.TheVariants.{Live, Dead}
-use Rattle.osc_space.specs.Objects.{mark, next_page, fact, facts, granted_at, grant, is_live, is_live_state, killed, kill, is_in_leaf, is_leaf_granted, leaf_dead, leaf_given_up}
+use Rattle.osc_space.specs.Objects.{next_page, fact, facts, granted_at, grant, is_live, killed, kill, is_in_leaf, is_leaf_granted, leaf_dead, leaf_given_up}
 use Rattle.osc_space.proofs.ObjectLawProofs.{mark-kill, mark-grant}
 use Rattle.osc_parts.proofs.Lists.{any_at}
 use Rattle.osc_ledger.proofs.Accounts.{more-facts}
@@ -102,7 +100,6 @@ wait-given leaf object call o xs ws e alive =
     ∙ ap (λ m. ((nat_le first_shadow_page (512 * leaf) && nat_le (512 * leaf + 512) (first_shadow_page + m)) && not (list_any (lives-in leaf) (kill object call xs))) && not (list_any (is_in_leaf leaf) (facts xs ws) || is_in_leaf leaf o)) (mark-kill object call xs)
     ∙ go (is_in_leaf leaf o) refl
   where
-
     away : (g x w : Bool) → ((g && not x) && not (w || false)) ≡ ((g && not x) && not w)
     away g x true = refl
     away g x false = refl

@@ -1,13 +1,13 @@
 -- What tables there are, by the pages ever mapped and the leaves given up, as both change.
-use Rattle.std.proofs.Common.{ℕ, zero, suc, ◌+◌, ◌*◌, ◌/◌, ◌≡◌, ◌≢◌, ◌<◌, ◌≤◌, ◌==◌, ◌&&◌, ◌||◌, nat_lt, not, Bool, true, false, cond, Option, Some, None, is_some, List, [], ◌∷◌, ◌++◌, arith, refl, sym, ap, subst, ◌∙◌}
-use Rattle.std.specs.List.{list_any, range_with_len}
+use Rattle.std.proofs.Common.{ℕ, zero, suc, ◌/◌, ◌≡◌, ◌<◌, ◌≤◌, ◌==◌, ◌&&◌, ◌||◌, not, Bool, true, false, Option, Some, None, is_some, List, [], ◌∷◌, arith, refl, sym, ap, subst, ◌∙◌}
+use Rattle.std.specs.List.{list_any}
 use Rattle.std.proofs.lemmas.Bool.Decides.{nat_tests}
 use Rattle.osc_paging.specs.KeptTables.{KeptTables, frame_of}
 use Rattle.osc_paging.specs.TableChanges.{Changed, leaf_cleared, without_page, unmap_page, unlinked, reclaim}
 use Rattle.osc_space.specs.declared.ObjectFact.{ObjectFact}
 use Rattle.osc_space.specs.Objects.{is_in_leaf, leaf_dead}
 use Rattle.osc_space.specs.Space.{Draft}
-use Rattle.osc_space.specs.Free.{unmap_all, unmap_object, reclaim_all, dead_leaves, flush}
+use Rattle.osc_space.specs.Free.{unmap_all, reclaim_all, dead_leaves, flush}
 use Rattle.osc_space.specs.PlanLaws.{table_after, is_given_up, LeavesStand}
 use Rattle.osc_space.proofs.PlanLawProofs.{flush_gives_up}
 use Rattle.osc_ledger.specs.Tables.{has_piece}
@@ -121,7 +121,7 @@ flushed ever waits harts gone d deep stand is h = record {
     low zero number l =
         let z : (zero == 0) ≡ true = grind (arith, nat_tests) in
         let was : there d.space.tables 0 number ≡ (ever 0 number && not (leaf_dead d.space.objects number && not (waits number))) =
-            h.below 0 number (subst (λ x. 0 < x) top l) ∙ ap (λ b. ever 0 number && not (b && (leaf_dead d.space.objects number && not (waits number)))) z in
+        h.below 0 number (subst (λ x. 0 < x) top l) ∙ ap (λ b. ever 0 number && not (b && (leaf_dead d.space.objects number && not (waits number)))) z in
         leaf-there number ∙ gives (there d.space.tables 0 number) (ever 0 number) (leaf_dead d.space.objects number) (waits number) was
         ∙ sym (ap (λ b. ever 0 number && not (b && leaf_dead d.space.objects number)) z)
     low (suc level) number l =

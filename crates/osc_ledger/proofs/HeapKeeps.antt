@@ -1,7 +1,6 @@
 -- The plan of each call on the heap with shadows keeps what the journal tells of its process's tables.
-use Rattle.std.proofs.Common.{ℕ, zero, suc, ◌+◌, ◌/◌, ◌≡◌, ◌≢◌, ◌<◌, ◌≤◌, ◌==◌, Bool, true, false, cond, Option, Some, None, is_some, List, [], ◌∷◌, ◌++◌, length, map, arith, refl, sym, ap, subst, ◌∙◌}
+use Rattle.std.proofs.Common.{ℕ, ◌+◌, ◌/◌, ◌≡◌, ◌≢◌, ◌<◌, ◌≤◌, ◌==◌, Bool, true, false, cond, Option, Some, None, List, [], ◌∷◌, ◌++◌, length, arith, refl, sym, ap, subst, ◌∙◌}
 use Rattle.std.specs.List.{list_any, range_with_len}
-use Rattle.std.proofs.lemmas.Bool.Decides.{nat_tests}
 use Rattle.osc_word.specs.declared.settings.HeapKind.{HeapKind}
 use Rattle.osc_word.specs.declared.settings.HeapKind.TheVariants.{Oscar, Plain}
 use Rattle.osc_word.specs.declared.calls.Call.{Call}
@@ -12,42 +11,37 @@ use Rattle.osc_word.specs.AddressMap.{first_shadow_page}
 use Rattle.osc_word.specs.WaitingList.{with_waiting}
 use Rattle.osc_class.specs.Rooms.{room_of, shadow_pages}
 use Rattle.osc_slot.specs.declared.Block.{Block}
-use Rattle.osc_slot.specs.Slots.{is_room}
 use Rattle.osc_slot.specs.Heap.{next_block, place}
-use Rattle.osc_paging.specs.KeptTables.{KeptTables, levels_of, frame_of, mapping_at}
+use Rattle.osc_paging.specs.KeptTables.{KeptTables, frame_of, mapping_at}
 use Rattle.osc_paging.specs.Agree.{Agrees}
 use Rattle.osc_paging.proofs.TableLawProofs.{tables_stand_above}
 use Rattle.osc_space.specs.declared.ObjectFact.{ObjectFact}
 use Rattle.osc_space.specs.declared.ObjectState.{ObjectState}
 use Rattle.osc_space.specs.declared.ObjectState.TheVariants.{Live, Dead}
-use Rattle.osc_space.specs.Objects.{Seen, mark, next_page, fact, granted_at, grant, kill, is_live, is_live_state, is_live_page, object_at}
+use Rattle.osc_space.specs.Objects.{Seen, mark, next_page, fact, grant, kill, is_live, is_live_state, is_live_page, object_at}
 use Rattle.osc_space.specs.Agree.{HeapAgrees, ObjectsAgree}
 use Rattle.osc_space.specs.Header.{Found, object_reasons, block_of}
-use Rattle.osc_space.specs.Space.{Space, Draft, Outcome, Terms, first_reason, unchanged, unless}
-use Rattle.osc_space.specs.Share.{shared_pages}
+use Rattle.osc_space.specs.Space.{Space, Draft, Outcome, first_reason, unchanged, unless}
 use Rattle.osc_space.specs.Malloc.{malloc_reasons, malloc_in, malloc_plan, place_block, fill_block, grant_object, map_shadows}
 use Rattle.osc_space.specs.Free.{waiting_facts, let_wait, is_full, flush_where, flush, kill_object, await, unmap_object, freed, free_seen, free_plan}
-use Rattle.osc_space.specs.Realloc.{stays, block_for, place_where, replace_object, keep_bytes, realloc_reasons, realloc_made, realloc_seen, realloc_plan}
-use Rattle.osc_space.specs.PlanLaws.{LeavesStand}
+use Rattle.osc_space.specs.Realloc.{stays, replace_object, keep_bytes, realloc_reasons, realloc_made, realloc_seen, realloc_plan}
 use Rattle.osc_space.proofs.ObjectLawProofs.{mark-kill, mark-grant}
 use Rattle.osc_space.proofs.RefusalLawProofs.{object_refuses, realloc_refuses, object_refused, realloc_refused}
 use Rattle.osc_parts.proofs.Lists.{get_within}
 use Rattle.osc_calls.specs.Kernel.{KernelState, Process, Calling, process_at}
 use Rattle.osc_calls.specs.Refusals.{draft_of}
 use Rattle.osc_calls.specs.HeapPlans.{terms_of, malloc_by, free_by, free_of, realloc_by}
-use Rattle.osc_calls.specs.Planned.{outcome_planned}
 use Rattle.osc_settled.proofs.Answering.{settled}
 use Rattle.osc_settled.proofs.Outcomes.{Asks}
 use Rattle.osc_machine.specs.Replay.{Ledger, fresh_block, gains, loses, lets_go, lets_wait, has_object, drops, replaces, told_by}
-use Rattle.osc_machine.specs.Refusals.{Setting, ever_mapped}
+use Rattle.osc_machine.specs.Refusals.{Setting}
 use Rattle.osc_machine.specs.Agreements.{tells_nothing}
 use Rattle.osc_safe.proofs.SpacePlans.{Refuses, first_refuses, seen-fact}
 use Rattle.osc_ledger.specs.Wanting.{setting}
-use Rattle.osc_ledger.specs.Tables.{TablesTold}
 use Rattle.osc_ledger.proofs.Accounts.{as_kept, kill-grant}
-use Rattle.osc_ledger.proofs.HeapTells.{told_keeps, refused_tells, with_space, fresh-is}
-use Rattle.osc_ledger.proofs.AddedTables.{there, Adds}
-use Rattle.osc_ledger.proofs.HasTables.{HasTables, same-tables, unmap-tables, flush-top}
+use Rattle.osc_ledger.proofs.HeapTells.{told_keeps, refused_tells, fresh-is}
+use Rattle.osc_ledger.proofs.AddedTables.{Adds}
+use Rattle.osc_ledger.proofs.HasTables.{same-tables, unmap-tables, flush-top}
 use Rattle.osc_ledger.proofs.HeapTables.{last-live}
 use Rattle.osc_ledger.proofs.HeapRows.{Has, shadows-add, malloc-has, wait-has, flush-has, realloc-has}
 
@@ -147,7 +141,7 @@ module _ (words image : List ℕ) (found : Found) (k : KernelState) (c : Calling
         let flushed = flush k.config.harts (waiting_facts e.space ++ s0.fact ∷ []) e in
         let adds-last = shadows-add (next_page p.space.objects) block last in
         let adds : Adds (range_with_len (next_page p.space.objects) pages) flushed.space.tables q.tables =
-            subst (λ t. Adds (range_with_len (next_page p.space.objects) pages) t q.tables) last-is (subst (λ t. Adds (range_with_len (next_page p.space.objects) pages) last.space.tables t) (sym q-is) adds-last) in
+        subst (λ t. Adds (range_with_len (next_page p.space.objects) pages) t q.tables) last-is (subst (λ t. Adds (range_with_len (next_page p.space.objects) pages) last.space.tables t) (sym q-is) adds-last) in
         let marks = ap (λ os. mark os) q-objects ∙ mark-kill s0.number n (grant pages size canon p.space.objects) ∙ mark-grant pages size canon p.space.objects in
         let same = mark-kill s0.number n p.space.objects in
         record {

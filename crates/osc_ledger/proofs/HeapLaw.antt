@@ -1,6 +1,5 @@
 -- The law of the tables under calls on the heap.
-use Rattle.std.proofs.Common.{ℕ, suc, ◌+◌, ◌≡◌, ◌==◌, Bool, true, false, cond, Option, Some, None, List, [], ◌∷◌, length, map, arith, refl, sym, ap, subst, ◌∙◌}
-use Rattle.std.proofs.lemmas.Bool.Decides.{nat_tests}
+use Rattle.std.proofs.Common.{ℕ, suc, ◌≡◌, ◌==◌, Bool, true, false, cond, Option, Some, None, List, [], ◌∷◌, length, map, arith, refl, sym, ap, subst, ◌∙◌}
 use Rattle.osc_word.specs.declared.settings.Config.{Config}
 use Rattle.osc_word.specs.declared.settings.HeapKind.TheVariants.{Oscar}
 use Rattle.osc_word.specs.declared.calls.Call.{Call}
@@ -10,14 +9,12 @@ use Rattle.osc_word.specs.declared.calls.Answer.TheVariants as answers
 use Rattle.osc_word.specs.WaitingList.{with_waiting}
 use Rattle.osc_class.specs.Rooms.{room_of}
 use Rattle.osc_slot.specs.Slots.{is_room}
-use Rattle.osc_paging.specs.KeptTables.{KeptTables}
 use Rattle.osc_space.specs.declared.ObjectFact.{ObjectFact}
 use Rattle.osc_space.specs.Objects.{fact}
 use Rattle.osc_space.specs.Header.{Found, block_of}
-use Rattle.osc_space.specs.Space.{Space, Draft, Outcome}
+use Rattle.osc_space.specs.Space.{Draft, Outcome}
 use Rattle.osc_space.specs.Share.{shared_pages}
-use Rattle.osc_parts.specs.PlanFits.{PlanFits}
-use Rattle.osc_calls.specs.Kernel.{KernelState, Process, Calling, Waiting, process_at}
+use Rattle.osc_calls.specs.Kernel.{KernelState, Process, Calling, process_at}
 use Rattle.osc_calls.specs.Requests.{meant}
 use Rattle.osc_calls.specs.Refusals.{draft_of}
 use Rattle.osc_calls.specs.HeapPlans.{terms_of, malloc_by, free_of, realloc_by}

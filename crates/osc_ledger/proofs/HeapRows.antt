@@ -1,5 +1,5 @@
 -- The tables after a malloc, a free and a realloc of the heap with shadows.
-use Rattle.std.proofs.Common.{ℕ, zero, suc, ◌+◌, ◌*◌, ◌/◌, ◌≡◌, ◌≢◌, ◌<◌, ◌≤◌, ◌==◌, ◌&&◌, ◌||◌, not, Bool, true, false, cond, Option, Some, None, is_some, List, [], ◌∷◌, ◌++◌, length, map, slice_get, arith, refl, sym, ap, subst, ◌∙◌}
+use Rattle.std.proofs.Common.{ℕ, zero, suc, ◌+◌, ◌/◌, ◌≡◌, ◌≢◌, ◌<◌, ◌≤◌, ◌==◌, ◌&&◌, ◌||◌, not, Bool, true, false, Some, None, List, [], ◌∷◌, ◌++◌, length, slice_get, arith, refl, sym, ap, subst, ◌∙◌}
 use Rattle.std.specs.List.{list_any, range_with_len}
 use Rattle.std.proofs.lemmas.Bool.Decides.{nat_tests}
 use Rattle.std.proofs.lemmas.List.Folds.{list_any-append}
@@ -7,29 +7,26 @@ use Rattle.std.proofs.lemmas.List.FromFn.{length-map-range_with_len}
 use Rattle.osc_word.specs.AddressMap.{first_shadow_page}
 use Rattle.osc_word.specs.WaitingList.{with_waiting}
 use Rattle.osc_sv39.specs.Walk.{piece}
-use Rattle.osc_class.specs.Rooms.{room_of, shadow_pages}
+use Rattle.osc_class.specs.Rooms.{shadow_pages}
 use Rattle.osc_slot.specs.declared.Block.{Block}
-use Rattle.osc_slot.specs.Heap.{next_block, place}
-use Rattle.osc_paging.specs.KeptTables.{KeptTables, levels_of, frame_of, mapping_at}
+use Rattle.osc_paging.specs.KeptTables.{KeptTables, mapping_at}
 use Rattle.osc_paging.specs.Agree.{Agrees}
 use Rattle.osc_space.specs.declared.ObjectFact.{ObjectFact}
-use Rattle.osc_space.specs.Objects.{Seen, mark, next_page, fact, facts, granted_at, grant, kill, is_live, is_in_leaf, leaf_dead, leaf_given_up}
-use Rattle.osc_space.specs.Header.{block_of}
-use Rattle.osc_space.specs.Space.{Space, Draft, Terms}
+use Rattle.osc_space.specs.Objects.{mark, next_page, fact, facts, granted_at, grant, kill, is_live, is_in_leaf, leaf_dead, leaf_given_up}
+use Rattle.osc_space.specs.Space.{Draft}
 use Rattle.osc_space.specs.BlockWords.{block_mappings, frame_at}
 use Rattle.osc_space.specs.LeafFlags.{read_write_at}
-use Rattle.osc_space.specs.Malloc.{place_block, fill_block, grant_object, map_shadows, malloc_in}
-use Rattle.osc_space.specs.Free.{waiting_facts, let_wait, is_full, flush_where, flush, kill_object, unmap_object}
-use Rattle.osc_space.specs.Realloc.{stays, block_for, place_where, replace_object, keep_bytes, realloc_made}
+use Rattle.osc_space.specs.Malloc.{map_shadows}
+use Rattle.osc_space.specs.Free.{waiting_facts, flush}
 use Rattle.osc_space.specs.PlanLaws.{LeavesStand}
 use Rattle.osc_space.proofs.ObjectLawProofs.{mark-kill, mark-grant}
 use Rattle.osc_machine.specs.Replay.{Ledger}
 use Rattle.osc_machine.specs.Refusals.{Setting, ever_mapped}
 use Rattle.osc_ledger.specs.Tables.{has_piece}
-use Rattle.osc_ledger.proofs.Accounts.{kill-grant, more-facts}
-use Rattle.osc_ledger.proofs.GivenUp.{grant-dead, grant-given, wait-given, waits-more, kill-facts}
-use Rattle.osc_ledger.proofs.AddedTables.{there, Adds, pages-add, in-range, all-over}
-use Rattle.osc_ledger.proofs.HasTables.{HasTables, added, same-tests, same-tables, unmap-tables, flush-top, flushed}
+use Rattle.osc_ledger.proofs.Accounts.{kill-grant}
+use Rattle.osc_ledger.proofs.GivenUp.{grant-given, wait-given, waits-more, kill-facts}
+use Rattle.osc_ledger.proofs.AddedTables.{Adds, pages-add, in-range, all-over}
+use Rattle.osc_ledger.proofs.HasTables.{HasTables, added, same-tests, same-tables, flushed}
 use Rattle.osc_ledger.proofs.HeapTables.{last-leaf, ever-granted, ever-same}
 
 -- the tables that a ledger tells

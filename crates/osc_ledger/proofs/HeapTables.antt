@@ -1,33 +1,27 @@
 -- The tables of a process after a call on the heap with shadows are those that the journal tells.
-use Rattle.std.proofs.Common.{ℕ, zero, suc, ◌+◌, ◌*◌, ◌/◌, ◌≡◌, ◌≢◌, ◌<◌, ◌≤◌, ◌==◌, ◌&&◌, ◌||◌, nat_lt, nat_le, not, Bool, true, false, cond, Option, Some, None, is_some, List, [], ◌∷◌, ◌++◌, length, map, slice_get, arith, refl, sym, ap, subst, ◌∙◌}
+use Rattle.std.proofs.Common.{ℕ, suc, ◌+◌, ◌*◌, ◌/◌, ◌≡◌, ◌≢◌, ◌<◌, ◌≤◌, ◌==◌, ◌&&◌, ◌||◌, nat_lt, nat_le, not, Bool, true, false, Option, Some, None, is_some, List, [], ◌∷◌, ◌++◌, arith, refl, sym, ap, subst, ◌∙◌}
 use Rattle.std.specs.List.{list_any, range_with_len}
 use Rattle.std.proofs.lemmas.Bool.Decides.{nat_tests}
 use Rattle.std.proofs.lemmas.List.Folds.{list_any-append}
-use Rattle.std.proofs.lemmas.List.FromFn.{length-map-range_with_len}
 use Rattle.osc_word.specs.declared.settings.HeapKind.TheVariants.{Oscar}
 use Rattle.osc_word.specs.AddressMap.{first_shared_page, first_shadow_page, is_shadow}
 use Rattle.osc_sv39.specs.Walk.{piece}
 use Rattle.osc_image.specs.Frames.{stack_pages}
 use Rattle.osc_slot.specs.declared.Block.{Block}
-use Rattle.osc_paging.specs.KeptTables.{KeptTables, frame_of, mapping_at}
-use Rattle.osc_paging.specs.JobWords.{words_after}
-use Rattle.osc_paging.specs.Agree.{Agrees}
+use Rattle.osc_paging.specs.KeptTables.{KeptTables, mapping_at}
 use Rattle.osc_space.specs.declared.ObjectFact.{ObjectFact}
-use Rattle.osc_space.specs.Objects.{mark, next_page, fact, facts, granted_at, grant, kill, is_live, has_page, is_live_page, is_in_leaf, is_leaf_granted, leaf_dead, leaf_given_up}
+use Rattle.osc_space.specs.Objects.{mark, next_page, granted_at, is_live, has_page, is_live_page, is_in_leaf, is_leaf_granted, leaf_dead}
 use Rattle.osc_space.specs.Agree.{HeapAgrees, ObjectsAgree}
-use Rattle.osc_space.specs.BlockWords.{block_mappings}
-use Rattle.osc_space.specs.Malloc.{map_shadows}
-use Rattle.osc_space.specs.Space.{Space, Draft, Closing, Keeps, GivesBack}
+use Rattle.osc_space.specs.Space.{Draft, Closing, Keeps, GivesBack}
 use Rattle.osc_space.specs.Finish.{give_blocks, finished}
-use Rattle.osc_parts.specs.Settled.{PartsFit}
 use Rattle.osc_calls.specs.Kernel.{KernelState, Process, process_at}
-use Rattle.osc_settled.specs.Memory.{at_rest, SpaceFits}
+use Rattle.osc_settled.specs.Memory.{at_rest}
 use Rattle.osc_settled.specs.UnderWay.{closing_of}
 use Rattle.osc_settled.specs.KernelFits.{KernelFits}
 use Rattle.osc_machine.specs.Replay.{Ledger}
 use Rattle.osc_machine.specs.Refusals.{Setting, region_pages, ever_mapped}
 use Rattle.osc_ledger.specs.Tables.{has_piece}
-use Rattle.osc_ledger.proofs.AddedTables.{there, Adds, pages-add, any-range, in-range, all-over}
+use Rattle.osc_ledger.proofs.AddedTables.{any-range}
 
 -- ---- what a return leaves
 gave-tables : (blocks : List Block) (d : Draft) → (give_blocks blocks d).space.tables ≡ d.space.tables
@@ -62,9 +56,9 @@ live-mapped words k pid q fits heap here lives page low high live none =
     let objects = ap (λ os. mark os) (finished-objects closing d) in
     let within : is_shadow page ≡ true = grind (arith, nat_tests, low, (let z : page < 0x2000000 = omega (arith, limit, shadows, objects, high) in z)) in
     let mapped : is_some (mapping_at (finished closing d).space.tables.pages page) ≡ true =
-        o.shadows page within ∙ ap (λ os. is_live_page os page) (finished-objects closing d) ∙ live in
+    o.shadows page within ∙ ap (λ os. is_live_page os page) (finished-objects closing d) ∙ live in
     let gone : is_some (mapping_at (finished closing d).space.tables.pages page) ≡ false =
-        ap (λ ms. is_some (mapping_at ms page)) (finished-pages closing d) ∙ ap (λ (x : Option _). is_some x) none in
+    ap (λ ms. is_some (mapping_at ms page)) (finished-pages closing d) ∙ ap (λ (x : Option _). is_some x) none in
     (let z : true ≡ false = sym mapped ∙ gone in (let w : ⊥ = grind (arith, z) in w))
 
 -- the last object that was granted lives on its pages
@@ -84,8 +78,8 @@ pub last-leaf : (before : List ObjectFact) (first pages size canon leaf page : �
 last-leaf before first pages size canon leaf page low high on =
     let within : (nat_lt first (512 * leaf + 512) && nat_lt (512 * leaf) (first + pages)) ≡ true = grind (arith, nat_tests, low, high, (let a : 512 * leaf ≤ page = omega (arith, on) in a), (let b : page < 512 * leaf + 512 = omega (arith, on) in b)) in
     let any : list_any (λ o. is_live o && is_in_leaf leaf o) (before ++ granted_at first pages size canon ∷ []) ≡ true =
-        list_any-append (λ o. is_live o && is_in_leaf leaf o) before (granted_at first pages size canon ∷ [])
-        ∙ ap (λ b. list_any (λ o. is_live o && is_in_leaf leaf o) before || (b || false)) within ∙ last (list_any (λ o. is_live o && is_in_leaf leaf o) before) in
+    list_any-append (λ o. is_live o && is_in_leaf leaf o) before (granted_at first pages size canon ∷ [])
+    ∙ ap (λ b. list_any (λ o. is_live o && is_in_leaf leaf o) before || (b || false)) within ∙ last (list_any (λ o. is_live o && is_in_leaf leaf o) before) in
     ap (λ b. is_leaf_granted (before ++ granted_at first pages size canon ∷ []) leaf && not b) any ∙ none (is_leaf_granted (before ++ granted_at first pages size canon ∷ []) leaf)
   where
     last : (b : Bool) → (b || (true || false)) ≡ true

@@ -9,7 +9,6 @@ pub mod ReplaySteps
 pub mod ReplayRuns
 pub mod Wants
 pub mod ByRule
-pub mod TableSteps
 pub mod GivenUp
 pub mod AddedTables
 pub mod HasTables

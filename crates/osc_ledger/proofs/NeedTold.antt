@@ -1,16 +1,15 @@
 -- The tables that fresh shadow pages lack, counted from the journal.
-use Rattle.std.proofs.Common.{ℕ, zero, suc, ◌+◌, ◌-◌, ◌*◌, ◌/◌, ◌≡◌, ◌≢◌, ◌<◌, ◌≤◌, ◌==◌, ◌&&◌, ◌||◌, ◌⊎◌, inl, inr, ⊎_elim, nat_lt, nat_le, not, Bool, true, false, cond, Option, Some, None, is_some, List, [], ◌∷◌, ◌++◌, length, map, arith, refl, sym, ap, subst, ◌∙◌}
+use Rattle.std.proofs.Common.{ℕ, zero, suc, ◌+◌, ◌-◌, ◌≡◌, ◌<◌, ◌≤◌, ◌==◌, ◌&&◌, ◌||◌, ◌⊎◌, inr, ⊎_elim, not, Bool, true, false, cond, Option, Some, None, is_some, List, [], ◌∷◌, ◌++◌, map, arith, refl, sym, ap, subst, ◌∙◌}
 use Rattle.std.specs.List.{list_any, range_with_len}
 use Rattle.std.proofs.lemmas.Bool.Decides.{nat_tests}
 use Rattle.osc_sv39.specs.Walk.{piece}
 use Rattle.osc_image.specs.Frames.{different, tables_below}
 use Rattle.osc_paging.specs.declared.TableFrame.{TableFrame}
-use Rattle.osc_paging.specs.KeptTables.{KeptTables, frame_of, lack, missing, pieces_over, need_below, need}
+use Rattle.osc_paging.specs.KeptTables.{frame_of, lack, missing, pieces_over, need_below}
 use Rattle.osc_paging.proofs.Needed.{piece_mono}
 use Rattle.osc_space.specs.Objects.{next_page, leaf_given_up}
-use Rattle.osc_machine.specs.Replay.{Ledger}
-use Rattle.osc_machine.specs.Refusals.{Setting, ever_mapped, new_tables}
-use Rattle.osc_ledger.specs.Tables.{has_piece, TablesTold}
+use Rattle.osc_machine.specs.Refusals.{ever_mapped}
+use Rattle.osc_ledger.specs.Tables.{has_piece}
 use Rattle.osc_ledger.specs.Needs.{ShadowNeedIsTold}
 use Rattle.osc_ledger.proofs.GivenUp.{fresh-kept}
 
@@ -59,7 +58,7 @@ one-level ts level ever first (suc zero) lacks =
     omega (arith, here, rest)
 one-level ts level ever first (suc (suc more)) lacks =
     let on = one-level ts level ever (first + 1) (suc more) (λ n low high. lacks n (let m = piece_mono (suc level) first (first + 1) (omega arith) in omega (arith, low, m))
-        (subst (λ x. n ≤ piece (suc level) x) (let z : first + 1 + suc more ≡ first + suc (suc more) = omega arith in z) high)) in
+    (subst (λ x. n ≤ piece (suc level) x) (let z : first + 1 + suc more ≡ first + suc (suc more) = omega arith in z) high)) in
     ⊎_elim (λ (e : piece (suc level) (first + 1) ≡ piece (suc level) first). same e on) (λ (e : piece (suc level) (first + 1) ≡ piece (suc level) first + 1). next e on) (piece-step (suc level) first)
   where
     same : piece (suc level) (first + 1) ≡ piece (suc level) first
@@ -82,7 +81,7 @@ one-level ts level ever first (suc (suc more)) lacks =
         let a = f first in
         let none = none-later (suc level) a (first + 1) (suc more) (omega (arith, e)) in
         let where-is : list_any (λ y. y == a) (map f (range_with_len (first + 1) (suc more) ++ ever)) ≡ has_piece level a ever =
-            any-map f a (range_with_len (first + 1) (suc more) ++ ever) ∙ any-append f a (range_with_len (first + 1) (suc more)) ever ∙ ap (λ b. b || has_piece level a ever) none in
+        any-map f a (range_with_len (first + 1) (suc more) ++ ever) ∙ any-append f a (range_with_len (first + 1) (suc more)) ever ∙ ap (λ b. b || has_piece level a ever) none in
         let m = piece_mono (suc level) first (first + suc (suc more)) (omega arith) in
         let head = ap (λ (b : Bool). cond {A = ℕ} b 0 1) where-is ∙ sym (lacks a (omega arith) m) in
         let last : first + 1 + more ≡ first + suc more = omega arith in

@@ -1,44 +1,36 @@
 -- Each entry of a run is answered by the rule of refusals.
-use Rattle.std.proofs.Common.{ℕ, zero, suc, ◌+◌, ◌≡◌, ◌≤◌, ◌⊎◌, inl, inr, ◌==◌, Bool, true, false, cond, Option, Some, None, Ok, is_some, List, [], ◌∷◌, ◌++◌, length, take, slice_get, arith, refl, sym, ap, subst, ◌∙◌}
+use Rattle.std.proofs.Common.{ℕ, ◌+◌, ◌≡◌, ◌⊎◌, inl, inr, Bool, true, false, Option, Some, None, is_some, List, [], ◌∷◌, ◌++◌, take, slice_get, arith, refl, sym, ap, subst, ◌∙◌}
 use Rattle.std.specs.Option.{option_map_or}
-use Rattle.osc_word.specs.declared.settings.Config.{Config}
 use Rattle.osc_word.specs.declared.calls.Answer.{Answer}
 use Rattle.osc_word.specs.declared.calls.Call.{Call}
 use Rattle.osc_word.specs.declared.calls.Call.TheVariants as calls
 use Rattle.osc_word.specs.declared.calls.Entry.{Entry}
-use Rattle.osc_word.specs.declared.calls.Request.{Request}
 use Rattle.osc_word.specs.declared.steps.Label.{Label}
-use Rattle.osc_word.specs.Limits.{first_fault}
-use Rattle.osc_image.specs.Image.{Image, pages}
-use Rattle.osc_image.specs.Frames.{needed_frames}
-use Rattle.osc_image.specs.Form.{image_of}
+use Rattle.osc_image.specs.Image.{pages}
 use Rattle.osc_paging.specs.KeptTables.{KeptTables}
 use Rattle.osc_space.specs.Header.{Found}
 use Rattle.osc_calls.specs.declared.HartRecord.TheVariants.{Runs}
 use Rattle.osc_calls.specs.declared.Begun.{Begun}
 use Rattle.osc_calls.specs.declared.Begun.TheVariants as begun
-use Rattle.osc_calls.specs.Kernel.{KernelState, Process, Calling, UnderWay, Quiet, Waiting, process_at, is_last, idle_hart}
+use Rattle.osc_calls.specs.Kernel.{KernelState, Process, Calling, Waiting, process_at, is_last, idle_hart}
 use Rattle.osc_calls.specs.Requests.{calling_of, meant}
 use Rattle.osc_calls.specs.Refusals.{refusal_of}
 use Rattle.osc_calls.specs.Planned.{planned_unless}
 use Rattle.osc_calls.specs.WritePlan.{write_by, first_unreadable, write_count}
 use Rattle.osc_calls.specs.ProcessPlans.{done_by, value_left, fork_done, spawn_done, share_done}
-use Rattle.osc_calls.specs.Plan.{plan_meant, plan_of, journal_entry, committed, plan_by, plan_waiting, plan}
+use Rattle.osc_calls.specs.Plan.{plan_meant, plan_of, journal_entry, plan_by, plan}
 use Rattle.osc_calls.specs.Begin.{no_words, begun_in, begin_as, begin_call, begin}
 use Rattle.osc_calls.specs.JobDone.{job_done}
-use Rattle.osc_calls.specs.Finish.{finish}
 use Rattle.osc_settled.specs.Records.{is_living}
 use Rattle.osc_settled.specs.KernelFits.{KernelFits}
 use Rattle.osc_settled.proofs.Beginning.{asks_as}
 use Rattle.osc_settled.proofs.Outcomes.{asks, caller_lives}
 use Rattle.osc_machine.specs.Parts.{State}
 use Rattle.osc_machine.specs.Step.{step}
-use Rattle.osc_machine.specs.Run.{Ran, with_step, run_on, at}
+use Rattle.osc_machine.specs.Run.{Ran, with_step, at}
 use Rattle.osc_machine.specs.Start.{start_of}
 use Rattle.osc_machine.specs.Views.{kernel_of, journal_of}
-use Rattle.osc_machine.specs.Laws.{HasKernel}
-use Rattle.osc_machine.specs.Replay.{ledger_at, replay}
-use Rattle.osc_machine.specs.Refusals.{Setting, setting_of, refusal_told, faults, IsAnswered}
+use Rattle.osc_machine.specs.Refusals.{setting_of, refusal_told, faults, IsAnswered}
 use Rattle.osc_machine.proofs.KernelLaws.{kernel_seen}
 use Rattle.osc_safe.specs.KernelSteps.{KernelStep, Kept, Begins, Plans, EndsJob, Finishes}
 use Rattle.osc_safe.proofs.KernelRows.{kernels_step}

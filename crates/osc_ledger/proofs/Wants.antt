@@ -1,10 +1,7 @@
 -- The reasons that the journal tells are the kernel's.
-use Rattle.std.proofs.Common.{ℕ, zero, suc, ◌+◌, ◌-◌, ◌/◌, ◌≡◌, ◌≤◌, ◌<◌, ◌==◌, nat_lt, nat_le, not, Bool, true, false, cond, Option, Some, None, is_some, is_none, option_map, find, List, [], ◌∷◌, ◌++◌, length, sum_by, arith, refl, sym, ap, subst, ◌∙◌}
-use Rattle.std.specs.List.{range_with_len}
+use Rattle.std.proofs.Common.{ℕ, ◌+◌, ◌-◌, ◌/◌, ◌≡◌, ◌==◌, nat_lt, nat_le, not, Bool, true, false, cond, Option, Some, None, is_some, is_none, List, [], ◌∷◌, length, sum_by, arith, refl, sym, ap, ◌∙◌}
 use Rattle.std.proofs.lemmas.Bool.Decides.{nat_tests}
-use Rattle.osc_word.specs.declared.settings.HeapKind.{HeapKind}
 use Rattle.osc_word.specs.declared.settings.HeapKind.TheVariants.{Oscar, Plain}
-use Rattle.osc_word.specs.declared.calls.Call.{Call}
 use Rattle.osc_word.specs.declared.calls.Call.TheVariants as calls
 use Rattle.osc_word.specs.declared.calls.Answer.{Answer}
 use Rattle.osc_word.specs.declared.calls.Answer.TheVariants as answers
@@ -14,25 +11,24 @@ use Rattle.osc_class.specs.declared.Room.{Room}
 use Rattle.osc_class.specs.Rooms.{room_of, shadow_pages}
 use Rattle.osc_image.specs.Frames.{table_count}
 use Rattle.osc_slot.specs.declared.Block.{Block}
-use Rattle.osc_slot.specs.Slots.{is_room, least_start, need as block_need}
-use Rattle.osc_slot.specs.Heap.{next_block, block_of_user, free_count}
+use Rattle.osc_slot.specs.Slots.{is_room, need as block_need}
+use Rattle.osc_slot.specs.Heap.{next_block, free_count}
 use Rattle.osc_paging.specs.KeptTables.{need}
-use Rattle.osc_space.specs.declared.ObjectFact.{ObjectFact}
-use Rattle.osc_space.specs.Objects.{Seen, mark, next_page, object_at}
+use Rattle.osc_space.specs.Objects.{Seen, mark, next_page}
 use Rattle.osc_space.specs.Header.{block_of}
-use Rattle.osc_space.specs.Space.{Draft, Reason, reason, first_reason}
+use Rattle.osc_space.specs.Space.{reason, first_reason}
 use Rattle.osc_space.specs.Malloc.{memory_reasons, malloc_reasons}
 use Rattle.osc_space.specs.Realloc.{stays, frames_for}
 use Rattle.osc_space.specs.PlainHeap.{plain_reasons, plain_realloc_reasons}
 use Rattle.osc_space.specs.Fork.{private_frames, fork_reasons}
 use Rattle.osc_space.specs.Share.{next_shared_page, share_reasons}
 use Rattle.osc_calls.specs.Threads.{has_room}
-use Rattle.osc_calls.specs.Kernel.{KernelState, Process, process_at, idle_hart}
-use Rattle.osc_calls.specs.Refusals.{draft_of, sharing_of, refusal_of}
+use Rattle.osc_calls.specs.Kernel.{KernelState, Process, idle_hart}
+use Rattle.osc_calls.specs.Refusals.{draft_of, refusal_of}
 use Rattle.osc_machine.specs.Replay.{Ledger, fresh_block}
-use Rattle.osc_machine.specs.Refusals.{Setting, region_pages, ever_mapped, process_frames, new_tables, unused, no_frames, room_reasons, block_frames_from, old_block, reasons}
+use Rattle.osc_machine.specs.Refusals.{Setting, region_pages, ever_mapped, process_frames, new_tables, unused, room_reasons, block_frames_from, reasons}
 use Rattle.osc_ledger.specs.Wanting.{WantsFit}
-use Rattle.osc_ledger.proofs.Accounts.{as_kept, none-at-zero}
+use Rattle.osc_ledger.proofs.Accounts.{as_kept}
 
 -- ---- lists of reasons
 -- of two, the second counts only where the first does not hold

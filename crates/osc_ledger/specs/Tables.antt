@@ -1,5 +1,5 @@
 -- Which tables a process has, by the pages that it ever mapped. This project's own.
-use Rattle.std.specs.Prelude.{ℕ, suc, ◌≡◌, ◌<◌, ◌≤◌, ◌==◌, ◌&&◌, not, Bool, true, false, Some, is_some, List, length, slice_get}
+use Rattle.std.specs.Prelude.{ℕ, suc, ◌≡◌, ◌<◌, ◌≤◌, ◌==◌, ◌&&◌, not, Bool, true, false, Some, is_some, List, length}
 use Rattle.std.specs.List.{list_any}
 use Rattle.osc_word.specs.declared.settings.HeapKind.TheVariants.{Oscar}
 use Rattle.osc_word.specs.declared.calls.Call.{Call}
