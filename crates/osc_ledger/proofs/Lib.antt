@@ -19,3 +19,4 @@ pub mod HeapKeeps
 pub mod HeapLaw
 pub mod NeedTold
 pub mod RunsByRule
+pub mod ForkTables

@@ -7,6 +7,9 @@ use Rattle.osc_word.specs.declared.calls.Call.TheVariants.{Malloc, Free, Realloc
 use Rattle.osc_sv39.specs.Walk.{piece}
 use Rattle.osc_paging.specs.KeptTables.{KeptTables, levels_of, frame_of}
 use Rattle.osc_space.specs.Objects.{leaf_given_up}
+use Rattle.osc_space.specs.Space.{Space, Draft, Closing}
+use Rattle.osc_space.specs.Fork.{fork_plan}
+use Rattle.osc_space.specs.Finish.{finished}
 use Rattle.osc_space.specs.Share.{shared_pages}
 use Rattle.osc_space.specs.Header.{Found}
 use Rattle.osc_calls.specs.Kernel.{KernelState, Process, Calling, Waiting, process_at}
@@ -48,3 +51,15 @@ HeapPlansKeepTables =
     → TablesTold (setting k image) (ledger_at (replay k.config k.journal) c.pid) p.space.tables
     → process_at (plan_of found c p k).kernel c.pid ≡ Some q
     → TablesTold (setting k image) (told_by k.config (length k.journal) c.call (plan_of found c p k).answer (ledger_at (replay k.config k.journal) c.pid)) q.space.tables
+
+-- so has a child of a fork, whose ledger is its parent's but for its threads
+abbrev pub ForksKeepTables : Type 0
+ForksKeepTables =
+    (s : Setting) (l : Ledger) (space : Space) (free : List Bool)
+    → TablesTold s l space.tables → TablesTold s (record l { threads = 1; spawned = 0 }) (fork_plan space free).child.tables
+
+-- and what a call gives back when it returns changes none of these
+abbrev pub ReturnsKeepTables : Type 0
+ReturnsKeepTables =
+    (s : Setting) (l : Ledger) (closing : Closing) (d : Draft)
+    → TablesTold s l d.space.tables → TablesTold s l (finished closing d).space.tables

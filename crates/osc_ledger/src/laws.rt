@@ -2,7 +2,7 @@
 
 ghost use Rattle.osc_ledger.specs.Replays.{StepsKeepReplay, RunsFitReplay, RunsAgreeWithReplay};
 ghost use Rattle.osc_ledger.specs.Wanting.{PlansAnswerByRule, RunsAnswerByRule};
-ghost use Rattle.osc_ledger.specs.Tables.{HeapPlansKeepTables};
+ghost use Rattle.osc_ledger.specs.Tables.{HeapPlansKeepTables, ForksKeepTables, ReturnsKeepTables};
 ghost use Rattle.osc_ledger.specs.Needs.{ShadowNeedIsTold};
 ghost use Rattle.osc_ledger.specs.Given.{PlansGiveTold};
 
@@ -31,9 +31,11 @@ pub fn plans_give_told()
 
 /// On the heap with shadows the plan of a malloc, a free or a realloc, refused or not, leaves its process
 /// exactly the tables that the journal tells: of the pages that it ever mapped, less the leaf tables that
-/// were given up.
-pub fn heap_plans_keep_tables()
-    ensures { HeapPlansKeepTables }
+/// were given up. So has the child of a fork, and what a call gives back changes none of these.
+pub fn tables_are_told()
+    ensures heap { HeapPlansKeepTables }
+    ensures forks { ForksKeepTables }
+    ensures returns { ReturnsKeepTables }
 {}
 
 /// Where a process has the tables that are told, fresh shadow pages take as many tables as the journal tells.
