@@ -20,3 +20,5 @@ pub mod HeapLaw
 pub mod NeedTold
 pub mod RunsByRule
 pub mod ForkTables
+pub mod ShadowPlans
+pub mod ShadowSteps

@@ -3,3 +3,4 @@ pub mod Wanting
 pub mod Tables
 pub mod Given
 pub mod Needs
+pub mod Limits

@@ -4,6 +4,7 @@ ghost use Rattle.osc_ledger.specs.Replays.{StepsKeepReplay, RunsFitReplay, RunsA
 ghost use Rattle.osc_ledger.specs.Wanting.{PlansAnswerByRule, RunsAnswerByRule};
 ghost use Rattle.osc_ledger.specs.Tables.{HeapPlansKeepTables, ForksKeepTables, ReturnsKeepTables};
 ghost use Rattle.osc_ledger.specs.Needs.{ShadowNeedIsTold};
+ghost use Rattle.osc_ledger.specs.Limits.{StepsKeepShadows, RunsFitShadows};
 ghost use Rattle.osc_ledger.specs.Given.{PlansGiveTold};
 
 /// At every moment of a run the journal tells what the kernel keeps of each process: its objects, those that
@@ -41,4 +42,10 @@ pub fn tables_are_told()
 /// Where a process has the tables that are told, fresh shadow pages take as many tables as the journal tells.
 pub fn shadow_need_is_told()
     ensures { ShadowNeedIsTold }
+{}
+
+/// In every run each process may be granted as many shadow pages as the machine says.
+pub fn shadows_fit()
+    ensures steps { StepsKeepShadows }
+    ensures runs { RunsFitShadows }
 {}
