@@ -1,16 +1,18 @@
 -- The tables that fresh shadow pages lack, counted from the journal.
-use Rattle.std.proofs.Common.{ℕ, zero, suc, ◌+◌, ◌-◌, ◌≡◌, ◌<◌, ◌≤◌, ◌==◌, ◌&&◌, ◌||◌, ◌⊎◌, inr, ⊎_elim, not, Bool, true, false, cond, Option, Some, None, is_some, List, [], ◌∷◌, ◌++◌, map, arith, refl, sym, ap, subst, ◌∙◌}
+use Rattle.std.proofs.Common.{ℕ, zero, suc, ◌+◌, ◌-◌, ◌≡◌, ◌<◌, ◌≤◌, ◌==◌, ◌&&◌, ◌||◌, ◌⊎◌, inr, ⊎_elim, ◌*◌, nat_le, not, Bool, true, false, cond, Option, Some, None, is_some, List, [], ◌∷◌, ◌++◌, map, arith, refl, sym, ap, subst, ◌∙◌}
 use Rattle.std.specs.List.{list_any, range_with_len}
 use Rattle.std.proofs.lemmas.Bool.Decides.{nat_tests}
+use Rattle.osc_word.specs.AddressMap.{first_shared_page, first_shadow_page}
 use Rattle.osc_sv39.specs.Walk.{piece}
 use Rattle.osc_image.specs.Frames.{different, tables_below}
 use Rattle.osc_paging.specs.declared.TableFrame.{TableFrame}
-use Rattle.osc_paging.specs.KeptTables.{frame_of, lack, missing, pieces_over, need_below}
+use Rattle.osc_paging.specs.KeptTables.{frame_of, lack, missing, pieces_over, need_below, need}
 use Rattle.osc_paging.proofs.Needed.{piece_mono}
 use Rattle.osc_space.specs.Objects.{next_page, leaf_given_up}
-use Rattle.osc_machine.specs.Refusals.{ever_mapped}
+use Rattle.osc_space.specs.Share.{next_shared_page}
+use Rattle.osc_machine.specs.Refusals.{Setting, region_pages, ever_mapped, new_tables}
 use Rattle.osc_ledger.specs.Tables.{has_piece}
-use Rattle.osc_ledger.specs.Needs.{ShadowNeedIsTold}
+use Rattle.osc_ledger.specs.Needs.{ShadowNeedIsTold, RegionNeedIsTold}
 use Rattle.osc_ledger.proofs.GivenUp.{fresh-kept}
 
 piece-step : (l n : ℕ) → (piece l (n + 1) ≡ piece l n) ⊎ (piece l (n + 1) ≡ piece l n + 1)
@@ -127,6 +129,43 @@ shadow_need_is_told s l t count told =
         ∙ ap (λ (b : Bool). cond {A = ℕ} b 0 1)
         (told.below level n less
         ∙ ap (λ b. has_piece level n (ever_mapped s l) && not b) (kept level n (level == 0) refl low)
+        ∙ whole (has_piece level n (ever_mapped s l)))
+      where
+        whole : (b : Bool) → (b && not false) ≡ b
+        whole true = refl
+        whole false = refl
+
+pub region_need_is_told : RegionNeedIsTold
+region_need_is_told s l t count told below =
+    let levels = told.levels in
+    let top : s.config.levels - 1 ≡ t.top = omega (arith, levels) in
+    let first : next_shared_page t ≡ first_shared_page + region_pages l.regions = ap (λ n. first_shared_page + n) told.regions in
+    let same = all-levels t.tables (ever_mapped s l) (next_shared_page t) count t.top lacks in
+    let more = ap (λ n. tables_below n (range_with_len (next_shared_page t) count ++ ever_mapped s l)) top in
+    let was = ap (λ n. tables_below n (ever_mapped s l)) top in
+    ap (λ n. new_tables s l n count) (sym first) ∙ (let e : new_tables s l (next_shared_page t) count ≡ need t (next_shared_page t) count = omega (arith, same, more, was) in e)
+  where
+    low-leaf : (n : ℕ) → n ≤ piece 1 (next_shared_page t + count) → leaf_given_up l.objects l.waiting n ≡ false
+    low-leaf n high =
+        let early : nat_le first_shadow_page (512 * n) ≡ false = grind (arith, nat_tests, (let z : 512 * n < first_shadow_page = omega (arith, high, below) in z)) in
+        none (nat_le first_shadow_page (512 * n)) _ _ _ early
+      where
+        none : (a b c d : Bool) → a ≡ false → (((a && b) && c) && d) ≡ false
+        none true b c d e = absurd (let z : ⊥ = grind (arith, e) in z)
+        none false b c d e = refl
+
+    kept : (level n : ℕ) (b : Bool) → (level == 0) ≡ b → n ≤ piece (suc level) (next_shared_page t + count) → (b && leaf_given_up l.objects l.waiting n) ≡ false
+    kept level n true e high =
+        let zeroth : level ≡ 0 = grind (arith, nat_tests, e) in
+        low-leaf n (subst (λ x. n ≤ piece (suc x) (next_shared_page t + count)) zeroth high)
+    kept level n false e high = refl
+
+    lacks : (level : ℕ) → level < t.top → Lacks t.tables level (ever_mapped s l) (next_shared_page t) (next_shared_page t + count)
+    lacks level less n low high =
+        lack-is (frame_of t.tables level n)
+        ∙ ap (λ (b : Bool). cond {A = ℕ} b 0 1)
+        (told.below level n less
+        ∙ ap (λ b. has_piece level n (ever_mapped s l) && not b) (kept level n (level == 0) refl high)
         ∙ whole (has_piece level n (ever_mapped s l)))
       where
         whole : (b : Bool) → (b && not false) ≡ b

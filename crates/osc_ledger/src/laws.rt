@@ -3,7 +3,7 @@
 ghost use Rattle.osc_ledger.specs.Replays.{StepsKeepReplay, RunsFitReplay, RunsAgreeWithReplay};
 ghost use Rattle.osc_ledger.specs.Wanting.{PlansAnswerByRule, RunsAnswerByRule};
 ghost use Rattle.osc_ledger.specs.Tables.{HeapPlansKeepTables, ForksKeepTables, ReturnsKeepTables};
-ghost use Rattle.osc_ledger.specs.Needs.{ShadowNeedIsTold};
+ghost use Rattle.osc_ledger.specs.Needs.{ShadowNeedIsTold, RegionNeedIsTold};
 ghost use Rattle.osc_ledger.specs.Limits.{StepsKeepShadows, RunsFitShadows};
 ghost use Rattle.osc_ledger.specs.Given.{PlansGiveTold};
 
@@ -39,9 +39,11 @@ pub fn tables_are_told()
     ensures returns { ReturnsKeepTables }
 {}
 
-/// Where a process has the tables that are told, fresh shadow pages take as many tables as the journal tells.
-pub fn shadow_need_is_told()
-    ensures { ShadowNeedIsTold }
+/// Where a process has the tables that are told, fresh shadow pages take as many tables as the journal
+/// tells, and so do the pages of a new region.
+pub fn needs_are_told()
+    ensures shadows { ShadowNeedIsTold }
+    ensures regions { RegionNeedIsTold }
 {}
 
 /// In every run each process may be granted as many shadow pages as the machine says.
