@@ -4,11 +4,10 @@ use Rattle.osc_word.specs.AddressMap.{is_shared}
 use Rattle.osc_slot.specs.declared.Block.{Block}
 use Rattle.osc_paging.specs.declared.Mapped.{Mapped}
 use Rattle.osc_paging.specs.KeptTables.{KeptTables, frame_of}
-use Rattle.osc_paging.specs.TableChanges.{renamed_page, renamed_table}
+use Rattle.osc_paging.specs.TableChanges.{renamed_page}
 use Rattle.osc_paging.proofs.Copied.{frame_of-renamed}
-use Rattle.osc_space.specs.Space.{Space, Draft, Closing, Keeps, GivesBack}
-use Rattle.osc_space.specs.Fork.{copies, name_in, fork_plan}
-use Rattle.osc_space.specs.Share.{shared_pages}
+use Rattle.osc_space.specs.Space.{Draft, Keeps, GivesBack}
+use Rattle.osc_space.specs.Fork.{fork_plan}
 use Rattle.osc_space.specs.Finish.{give_blocks, finished}
 use Rattle.osc_machine.specs.Replay.{Ledger}
 use Rattle.osc_machine.specs.Refusals.{Setting}

@@ -10,7 +10,7 @@ use Rattle.osc_paging.specs.KeptTables.{frame_of, lack, missing, pieces_over, ne
 use Rattle.osc_paging.proofs.Needed.{piece_mono}
 use Rattle.osc_space.specs.Objects.{next_page, leaf_given_up}
 use Rattle.osc_space.specs.Share.{next_shared_page}
-use Rattle.osc_machine.specs.Refusals.{Setting, region_pages, ever_mapped, new_tables}
+use Rattle.osc_machine.specs.Refusals.{region_pages, ever_mapped, new_tables}
 use Rattle.osc_ledger.specs.Tables.{has_piece}
 use Rattle.osc_ledger.specs.Needs.{ShadowNeedIsTold, RegionNeedIsTold}
 use Rattle.osc_ledger.proofs.GivenUp.{fresh-kept}

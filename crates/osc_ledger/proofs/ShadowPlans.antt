@@ -1,31 +1,20 @@
 -- No change of a process's memory changes how many shadow pages it may be granted.
-use Rattle.std.proofs.Common.{ℕ, suc, ◌+◌, ◌/◌, ◌≡◌, ◌==◌, Bool, true, false, cond, Option, Some, None, List, [], ◌∷◌, ◌++◌, map, refl, ap, ◌∙◌}
-use Rattle.std.specs.Prelude.{take}
-use Rattle.std.specs.List.{range_with_len}
+use Rattle.std.proofs.Common.{ℕ, ◌≡◌, ◌==◌, Bool, true, false, cond, Option, Some, None, List, [], ◌∷◌, refl}
 use Rattle.osc_word.specs.declared.settings.HeapKind.{HeapKind}
 use Rattle.osc_word.specs.declared.settings.HeapKind.TheVariants.{Oscar, Plain}
 use Rattle.osc_word.specs.declared.calls.Answer.{Answer}
 use Rattle.osc_word.specs.declared.calls.Answer.TheVariants as answers
-use Rattle.osc_sv39.specs.declared.entries.Mapping.{Mapping}
 use Rattle.osc_slot.specs.declared.Block.{Block}
 use Rattle.osc_slot.specs.Heap.{next_block, block_of_user}
 use Rattle.osc_slot.specs.Slots.{is_room}
 use Rattle.osc_class.specs.Rooms.{room_of}
-use Rattle.osc_paging.specs.KeptTables.{KeptTables, levels_of, frame_of}
-use Rattle.osc_paging.specs.TableChanges.{Changed, zero_job, without_page, map_page, map_pages, leaf_cleared, unmap_page, unlinked, reclaim}
-use Rattle.osc_paging.proofs.Needed.{map_page-top}
-use Rattle.osc_space.specs.declared.ObjectFact.{ObjectFact}
-use Rattle.osc_space.specs.Objects.{Seen, object_at, next_page}
+use Rattle.osc_space.specs.Objects.{Seen, object_at}
 use Rattle.osc_space.specs.Header.{Found, object_reasons}
 use Rattle.osc_space.specs.Space.{Draft, Terms, Outcome, Closing, Keeps, GivesBack, first_reason, unless, unchanged}
-use Rattle.osc_space.specs.Malloc.{malloc_reasons, malloc_in, malloc_plan, block_need, place_block, fill_block, grant_object, map_shadows}
-use Rattle.osc_space.specs.BlockWords.{block_mappings, mappings_of}
-use Rattle.osc_space.specs.LeafFlags.{read_write_at}
-use Rattle.osc_space.specs.Fork.{free_numbers, set_free}
-use Rattle.osc_space.specs.Free.{unmap_all, unmap_object, reclaim_all, dead_leaves, waiting_facts, flush, is_full, flush_where, kill_object, await, let_wait, freed, free_seen, free_plan}
-use Rattle.osc_space.specs.Realloc.{stays, place_where, let_go, keep_bytes, realloc_reasons, realloc_in, block_for, realloc_made, realloc_seen, realloc_plan, replace_object}
+use Rattle.osc_space.specs.Malloc.{malloc_reasons, malloc_in, malloc_plan}
+use Rattle.osc_space.specs.Free.{is_full, flush_where, let_wait, freed, free_seen, free_plan}
+use Rattle.osc_space.specs.Realloc.{stays, place_where, realloc_reasons, realloc_in, block_for, realloc_made, realloc_seen, realloc_plan}
 use Rattle.osc_space.specs.PlainHeap.{plain_reasons, plain_malloc_in, plain_malloc_plan, emptied_pages, unmap_emptied, plain_free_of, plain_free_plan, plain_realloc_reasons, plain_resize, kept_bytes, plain_realloc_of, plain_realloc_plan, copy_block, place_plain}
-use Rattle.osc_space.specs.Share.{Sharing, next_shared_page, share_plan}
 use Rattle.osc_space.specs.Finish.{give_blocks, finished}
 use Rattle.osc_calls.specs.HeapPlans.{malloc_by, free_by, free_of, realloc_by}
 

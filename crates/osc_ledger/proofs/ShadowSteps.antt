@@ -1,19 +1,14 @@
 -- Each step of the kernel keeps how many shadow pages each process may be granted, and so it is all along each run.
-use Rattle.std.proofs.Common.{ℕ, zero, suc, ◌+◌, ◌-◌, ◌≡◌, ◌≢◌, ◌≤◌, ◌/◌, ◌==◌, Bool, true, false, Option, Some, None, List, [], ◌∷◌, ◌++◌, position, slice_get, slice_set, arith, refl, sym, ap, subst, ◌∙◌}
+use Rattle.std.proofs.Common.{ℕ, zero, suc, ◌≡◌, ◌≢◌, ◌==◌, Bool, true, false, Option, Some, None, List, [], ◌∷◌, ◌++◌, slice_get, slice_set, arith, refl, sym, ap, subst, ◌∙◌}
 use Rattle.std.proofs.lemmas.Bool.Decides.{nat_tests}
 use Rattle.osc_word.specs.declared.settings.Config.{Config}
 use Rattle.osc_word.specs.declared.calls.Answer.{Answer}
-use Rattle.osc_word.specs.declared.calls.Answer.TheVariants as answers
 use Rattle.osc_word.specs.declared.calls.Call.{Call}
 use Rattle.osc_word.specs.declared.calls.Call.TheVariants as calls
 use Rattle.osc_word.specs.declared.calls.Request.{Request}
-use Rattle.osc_word.specs.declared.steps.Label.{Label}
 use Rattle.osc_image.specs.Image.{Image}
-use Rattle.osc_paging.specs.KeptTables.{KeptTables, levels_of, frame_of}
-use Rattle.osc_paging.specs.TableChanges.{Changed, link_all, leaf_put}
-use Rattle.osc_paging.proofs.Needed.{link_all-top}
+use Rattle.osc_paging.specs.KeptTables.{KeptTables}
 use Rattle.osc_space.specs.Header.{Found}
-use Rattle.osc_space.specs.LeafFlags.{leaf_of_page}
 use Rattle.osc_space.specs.Space.{Outcome}
 use Rattle.osc_space.specs.Fork.{fork_plan}
 use Rattle.osc_space.specs.Share.{share_plan}
@@ -28,20 +23,19 @@ use Rattle.osc_calls.specs.HeapPlans.{terms_of, malloc_by, free_of, realloc_by}
 use Rattle.osc_calls.specs.Planned.{Planned, planned_unless, outcome_planned}
 use Rattle.osc_calls.specs.WritePlan.{write_by, first_unreadable, write_count}
 use Rattle.osc_calls.specs.ProcessPlans.{child_process, done_by, value_left, fork_done, spawn_done, share_done}
-use Rattle.osc_calls.specs.Plan.{plan_meant, plan_of, committed, plan_by, plan_waiting, plan}
+use Rattle.osc_calls.specs.Plan.{plan_meant, plan_by, plan_waiting, plan}
 use Rattle.osc_calls.specs.Begin.{no_words, begun_in, begin_as, begin_call, begin}
 use Rattle.osc_calls.specs.JobDone.{job_done}
 use Rattle.osc_calls.specs.Finish.{hart_left, settled, returned, finish_by, finish}
-use Rattle.osc_calls.specs.Open.{OpenPage, laid, lay, lay_all, rooted, all_pages, image_pages, open_kernel}
+use Rattle.osc_calls.specs.Open.{open_kernel}
 use Rattle.osc_settled.proofs.Lists.{get-put_same, get-put_other}
-use Rattle.osc_settled.proofs.Laying.{ranges}
 use Rattle.osc_machine.specs.Parts.{State}
 use Rattle.osc_machine.specs.Step.{step}
 use Rattle.osc_machine.specs.Run.{Ran, with_step, run_on}
 use Rattle.osc_machine.specs.Start.{start_of}
 use Rattle.osc_machine.specs.Laws.{HasKernel}
 use Rattle.osc_machine.proofs.KernelLaws.{start_has_kernel}
-use Rattle.osc_safe.specs.KernelSteps.{KernelStep, Kept, Begins, Plans, EndsJob, Finishes}
+use Rattle.osc_safe.specs.KernelSteps.{Kept, Begins, Plans, EndsJob, Finishes}
 use Rattle.osc_safe.proofs.HoldingSteps.{steps_hold}
 use Rattle.osc_safe.proofs.KernelRows.{kernels_step}
 use Rattle.osc_safe.proofs.StandingSteps.{steps_stand}
