@@ -1,42 +1,39 @@
 -- What the hart that acts in an instruction is told, is to be relied on.
-use Rattle.std.proofs.Common.{ℕ, zero, suc, ◌-◌, ◌%◌, ◌≡◌, ◌<◌, Bool, true, false, Option, Some, None, is_some, List, [], ◌∷◌, length, set, slice_get, slice_set, arith, refl, sym, ap, subst, ◌∙◌}
+use Rattle.std.proofs.Common.{ℕ, ◌%◌, ◌≡◌, Bool, true, false, Option, Some, None, is_some, slice_get, arith, refl, sym, ap, subst, ◌∙◌}
 use Rattle.std.specs.Option.{option_map_or}
-use Rattle.std.proofs.lemmas.Bool.Decides.{nat_tests}
 use Rattle.std.proofs.lemmas.Option.{slice_get_within}
-use Rattle.osc_word.specs.declared.job_list.WordAt.{WordAt}
 use Rattle.osc_word.specs.declared.orders.Order.{Order}
 use Rattle.osc_word.specs.declared.orders.Order.TheVariants as order
 use Rattle.osc_word.specs.declared.orders.Start.{Start}
 use Rattle.osc_sv39.specs.Entries.{entry_of}
 use Rattle.osc_sv39.specs.Walk.{piece, number_of, is_canonical, word_at}
-use Rattle.osc_paging.specs.Boxes.{BoxState, no_entries}
+use Rattle.osc_paging.specs.Boxes.{BoxState}
 use Rattle.osc_paging.specs.KeptTables.{levels_of}
 use Rattle.osc_guest.specs.declared.accesses.MemoryAccess.{MemoryAccess}
 use Rattle.osc_guest.specs.declared.places.Place.{Place}
 use Rattle.osc_guest.specs.declared.places.Place.TheVariants as at
 use Rattle.osc_guest.specs.User.{UserHart}
 use Rattle.osc_guest.specs.Accesses.{access_page}
-use Rattle.osc_guest.specs.Told.{Told, Box, Word, Gate, Busy, OldVersion, Resumed, Done, told}
+use Rattle.osc_guest.specs.Told.{Told, Box, Word, told}
 use Rattle.osc_guest.specs.Hands.{holds_box, start_in, start_told, runs_by, runs_after, runs_thread, held_after}
 use Rattle.osc_guest.specs.Carry.{Pages, Tabs, CacheOk, RootOk, RootIf, PlaceOk, EntryOk, RunBoxOk, IdleBoxOk, ToldOk}
 use Rattle.osc_guest.proofs.Carry.{empty-ok}
 use Rattle.osc_guest.proofs.Hands.{told-box, told-runs, told-pid, told-root, told-levels}
-use Rattle.osc_calls.specs.Kernel.{KernelState, Process, process_at, root}
+use Rattle.osc_calls.specs.Kernel.{KernelState}
 use Rattle.osc_machine.specs.Parts.{HartState, State}
 use Rattle.osc_machine.specs.Step.{box_at, step}
 use Rattle.osc_machine.specs.Laws.{HasKernel}
-use Rattle.osc_safe.specs.Holding.{Holds}
 use Rattle.osc_safe.proofs.HoldingSteps.{steps_hold}
 use Rattle.osc_safe.proofs.StandingSteps.{steps_stand}
-use Rattle.osc_records.specs.Agreeing.{Setting, setting_of, is_start}
+use Rattle.osc_records.specs.Agreeing.{Setting, is_start}
 use Rattle.osc_records.specs.Recorded.{IsRecorded}
 use Rattle.osc_records.proofs.Runs.{instructions_recorded}
 use Rattle.osc_records.proofs.Steps.{steps_record}
-use Rattle.osc_relying.specs.Relying.{PageOf, TableOf, HasBox, AtHome}
+use Rattle.osc_relying.specs.Relying.{PageOf, TableOf, AtHome}
 use Rattle.osc_walks.specs.Canonical.{WalksCanonical}
 use Rattle.osc_walks.specs.Walking.{Walkable}
-use Rattle.osc_walks.proofs.Leads.{Known, entry-leads, root-leads}
-use Rattle.osc_walks.proofs.Where.{IsSpared, home-spared, own-spared, known-of, process-of}
+use Rattle.osc_walks.proofs.Leads.{entry-leads, root-leads}
+use Rattle.osc_walks.proofs.Where.{home-spared, own-spared, known-of, process-of}
 
 -- ---- answers that tell nothing of a page or a table
 abbrev pub IsPlainTold : Told → Type 0

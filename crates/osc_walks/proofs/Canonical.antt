@@ -1,5 +1,5 @@
 -- A hart walks for canonical pages alone, through each step.
-use Rattle.std.proofs.Common.{ℕ, zero, suc, ◌≡◌, Bool, true, false, Option, Some, None, List, [], ◌∷◌, set, slice_get, arith, refl, sym, ap, subst, ◌∙◌}
+use Rattle.std.proofs.Common.{ℕ, zero, suc, ◌≡◌, Bool, true, false, Option, Some, None, List, [], ◌∷◌, slice_get, arith, refl, sym, ap, subst, ◌∙◌}
 use Rattle.std.specs.Option.{option_map_or}
 use Rattle.osc_word.specs.declared.settings.Config.{Config}
 use Rattle.osc_word.specs.declared.orders.Start.{Start}
@@ -20,7 +20,7 @@ use Rattle.osc_guest.proofs.Hands.{told-levels}
 use Rattle.osc_guest.proofs.Carry.{carries}
 use Rattle.osc_calls.specs.Open.{open_kernel, open_start}
 use Rattle.osc_machine.specs.Parts.{HartState, State}
-use Rattle.osc_machine.specs.Turns.{HartTold, Turn, hart_told}
+use Rattle.osc_machine.specs.Turns.{Turn, hart_told}
 use Rattle.osc_machine.specs.Step.{Stepped, step}
 use Rattle.osc_machine.specs.Run.{Ran, with_step, run_on}
 use Rattle.osc_machine.specs.Start.{first_hart, start_of}

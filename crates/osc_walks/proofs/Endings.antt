@@ -1,5 +1,5 @@
 -- A call that takes no boxes ends no process.
-use Rattle.std.proofs.Common.{ℕ, ◌≡◌, not, if◌then◌else◌, Bool, true, false, Option, Some, None, is_none, List, slice_get, arith, refl, sym, ap, subst, ◌∙◌}
+use Rattle.std.proofs.Common.{ℕ, ◌≡◌, not, if◌then◌else◌, Bool, true, false, Option, Some, None, List, slice_get, arith, refl, sym, ap, subst, ◌∙◌}
 use Rattle.osc_word.specs.declared.calls.Answer.{Answer}
 use Rattle.osc_word.specs.declared.calls.Call.{Call}
 use Rattle.osc_word.specs.declared.calls.Call.TheVariants as calls
@@ -8,14 +8,13 @@ use Rattle.osc_space.specs.Header.{Found}
 use Rattle.osc_space.specs.Space.{Closing, Keeps, GivesBack}
 use Rattle.osc_calls.specs.declared.Begun.{Begun}
 use Rattle.osc_calls.specs.declared.Begun.TheVariants as begun
-use Rattle.osc_calls.specs.Kernel.{KernelState, Process, Calling, UnderWay, Quiet, Retrying, Leaving, Waiting, Returning, process_at, is_last, has_journal_room}
+use Rattle.osc_calls.specs.Kernel.{KernelState, Process, Calling, Waiting, process_at, is_last, has_journal_room}
 use Rattle.osc_calls.specs.Requests.{calling_of, meant, is_ready}
 use Rattle.osc_calls.specs.Refusals.{draft_of, refusal_of}
-use Rattle.osc_calls.specs.Planned.{Planned, planned_unless, closing_effect}
+use Rattle.osc_calls.specs.Planned.{planned_unless, closing_effect}
 use Rattle.osc_calls.specs.HeapPlans.{terms_of, malloc_by, free_of, realloc_by}
 use Rattle.osc_calls.specs.ProcessPlans.{done_by, value_left, fork_done, spawn_done, share_done}
-use Rattle.osc_calls.specs.WritePlan.{write_plan}
-use Rattle.osc_calls.specs.Plan.{plan_meant, plan_of, committed, plan_by, plan_waiting, plan}
+use Rattle.osc_calls.specs.Plan.{plan_meant, plan_by, plan_waiting, plan}
 use Rattle.osc_calls.specs.Begin.{boxes_where, first_step, no_words, begun_in, begin_as, begin_call, begin}
 use Rattle.osc_settled.specs.Records.{ends_by, ending}
 use Rattle.osc_records.specs.Agreeing.{takes_boxes, TakesNone}

@@ -1,5 +1,5 @@
 -- Where a word leads that is read on the way to a page, and that the topmost table is one to rely on.
-use Rattle.std.proofs.Common.{ℕ, zero, suc, ◌+◌, ◌-◌, ◌*◌, ◌/◌, ◌%◌, ◌^◌, ◌≡◌, ◌<◌, ◌==◌, ◌||◌, ◌&&◌, ◌⊎◌, inl, inr, ⊎_elim, not, nat_lt, if◌then◌else◌, Bool, true, false, Option, Some, None, is_some, unwrap_or, List, [], ◌∷◌, arith, refl, sym, ap, subst, ◌∙◌}
+use Rattle.std.proofs.Common.{ℕ, zero, suc, ◌+◌, ◌-◌, ◌*◌, ◌%◌, ◌^◌, ◌≡◌, ◌<◌, ◌==◌, ◌||◌, ◌&&◌, inl, inr, ⊎_elim, not, nat_lt, if◌then◌else◌, Bool, true, false, Option, Some, None, is_some, unwrap_or, List, [], ◌∷◌, arith, refl, sym, ap, subst, ◌∙◌}
 use Rattle.std.specs.List.{list_any}
 use Rattle.std.proofs.Math.Nat.{mod-lt}
 use Rattle.std.proofs.lemmas.Bool.Decides.{nat_tests}
@@ -29,7 +29,7 @@ use Rattle.osc_settled.specs.UnderWay.{closing_of}
 use Rattle.osc_settled.specs.KernelFits.{KernelFits}
 use Rattle.osc_showing.specs.Showing.{is_closed, clears, AllDue, Tidy, Shows}
 use Rattle.osc_showing.specs.PlanTurns.{cleared_by}
-use Rattle.osc_showing.specs.Leading.{piece_at, mapped_to, LinkLeads, LeafLeads, Leads}
+use Rattle.osc_showing.specs.Leading.{piece_at, mapped_to}
 use Rattle.osc_showing.proofs.Folds.{some-is, reads-zero, small-frame, apart-frames}
 use Rattle.osc_showing.proofs.Shown.{tidy-of}
 use Rattle.osc_showing.proofs.Leading.{shown_leads}
@@ -96,7 +96,7 @@ pub data PidShows (k : KernelState) (words : List ℕ) (pid : ℕ) (p : Process)
   InCall : (done : Committed) (old : KeptTables) → k.under_way ≡ Returning done → is_heap_call (meant done.calling.call) ≡ true → done.calling.pid ≡ pid
       → OldGo old p.space (answer_in k.under_way) → Shows (cleared_in k.config.harts k.under_way) old p.space.tables k.free k.jobs words → PidShows k words pid p
 
--- what is known of it, for a hart of this number
+-- what is known of it, for a hart of this number; `held` are words with which the kernel fits
 pub record Known (k : KernelState) (words : List ℕ) (n pid : ℕ) (p : Process) : Type 0 where
   pub held : List ℕ
   pub fits : KernelFits held k

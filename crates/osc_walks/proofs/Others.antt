@@ -1,5 +1,5 @@
 -- What the kernel's step leaves another hart to rely on.
-use Rattle.std.proofs.Common.{ℕ, suc, ◌+◌, ◌≡◌, ◌≢◌, ◌<◌, ◌==◌, nat_lt, if◌then◌else◌, Bool, true, false, Option, Some, None, is_some, List, [], ◌∷◌, ◌++◌, length, set, slice_get, slice_set, arith, refl, sym, ap, subst, ◌∙◌}
+use Rattle.std.proofs.Common.{ℕ, ◌+◌, ◌≡◌, ◌≢◌, ◌<◌, ◌==◌, nat_lt, if◌then◌else◌, Bool, true, false, Option, Some, None, is_some, List, [], ◌∷◌, ◌++◌, length, set, slice_get, arith, refl, sym, ap, subst, ◌∙◌}
 use Rattle.std.proofs.lemmas.Bool.Decides.{nat_tests}
 use Rattle.std.proofs.lemmas.Option.{slice_get_within}
 use Rattle.osc_word.specs.declared.job_list.Job.{Job}
@@ -14,11 +14,9 @@ use Rattle.osc_guest.specs.Accesses.{access_page}
 use Rattle.osc_guest.specs.Hands.{holds_box, runs_thread}
 use Rattle.osc_guest.specs.Carry.{may_walk, RootIf, PlaceOk, HartOk}
 use Rattle.osc_space.specs.Header.{Found}
-use Rattle.osc_calls.specs.Kernel.{KernelState, Calling, UnderWay, Quiet, Retrying, Leaving, Waiting, Returning as CallReturning, next_job}
-use Rattle.osc_calls.specs.Begin.{begin}
+use Rattle.osc_calls.specs.Kernel.{KernelState, Calling, Quiet, Waiting, Returning as CallReturning, next_job}
 use Rattle.osc_calls.specs.Plan.{plan}
 use Rattle.osc_calls.specs.JobDone.{job_done, entries}
-use Rattle.osc_calls.specs.Finish.{finish}
 use Rattle.osc_calls.specs.Moves.{Move, moves_of}
 use Rattle.osc_calls.specs.Moves as move
 use Rattle.osc_settled.specs.Records.{ending}
@@ -26,12 +24,12 @@ use Rattle.osc_settled.specs.UnderWay.{UnderWayFits}
 use Rattle.osc_settled.specs.KernelFits.{KernelFits}
 use Rattle.osc_machine.specs.declared.HartAsk.TheVariants as does
 use Rattle.osc_machine.specs.Parts.{CallPlace, Outside, TakingBoxes, FirstWord, SecondWord, Working, GivingBoxes, Returning, HartState, State}
-use Rattle.osc_machine.specs.Turns.{Box, Turn, move_ask, place_ask, hart_ask, hart_told, place_told, box_taken, as_before, found_words, place_on, in_call}
+use Rattle.osc_machine.specs.Turns.{Box, Turn, move_ask, place_ask, hart_ask, hart_told, place_told, box_taken, as_before, found_words}
 use Rattle.osc_machine.specs.Step.{Stepped, stays, tells, with_box, box_at, takes_box, acted, step_of, step}
 use Rattle.osc_machine.specs.Laws.{IsTaken, HasKernel}
 use Rattle.osc_machine.proofs.StepLaws.{rest_stays, taken_stays, others_stay}
 use Rattle.osc_safe.specs.Holding.{holds_for_call, HoldsAt, Holds}
-use Rattle.osc_safe.specs.Standing.{FitsSome, WorksOn, Waits, IsCommitted, InHand, Stands}
+use Rattle.osc_safe.specs.Standing.{WorksOn, Waits, IsCommitted, InHand, Stands}
 use Rattle.osc_safe.specs.KernelSteps.{KernelStep, Kept, Begins, Plans, EndsJob, Finishes}
 use Rattle.osc_safe.proofs.KernelRows.{kernels_step, hand-is-one}
 use Rattle.osc_records.specs.Agreeing.{TakesNone}
@@ -39,7 +37,7 @@ use Rattle.osc_records.specs.Recorded.{CallFits}
 use Rattle.osc_records.proofs.Runs.{instructions_recorded}
 use Rattle.osc_showing.specs.Showing.{clears}
 use Rattle.osc_relying.specs.Relying.{PageOf, TableOf}
-use Rattle.osc_lasting.specs.Lasting.{Lasts, LastsReturned, each_hart, spared_by, StepsLast}
+use Rattle.osc_lasting.specs.Lasting.{Lasts, each_hart, spared_by, StepsLast}
 use Rattle.osc_walks.specs.Walking.{Walkable}
 use Rattle.osc_walks.proofs.Endings.{planned-none, begin-none}
 use Rattle.osc_walks.proofs.Where.{Where, Home, Hand, where-is, waiting-jobs, IsSpared, own-away, own-spared}

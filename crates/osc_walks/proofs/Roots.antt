@@ -7,7 +7,7 @@ use Rattle.osc_word.specs.declared.calls.Call.TheVariants as calls
 use Rattle.osc_word.specs.declared.calls.Request.{Request}
 use Rattle.osc_word.specs.declared.job_list.Job.{Job}
 use Rattle.osc_word.specs.declared.settings.HeapKind.TheVariants.{Oscar}
-use Rattle.osc_paging.specs.KeptTables.{piece_of, root_of}
+use Rattle.osc_paging.specs.KeptTables.{root_of}
 use Rattle.osc_paging.proofs.TableLists.{apart-found}
 use Rattle.osc_space.specs.Header.{Found}
 use Rattle.osc_space.specs.Space.{Outcome, unchanged}
@@ -20,7 +20,7 @@ use Rattle.osc_calls.specs.Requests.{calling_of, meant, is_ready}
 use Rattle.osc_calls.specs.Refusals.{draft_of}
 use Rattle.osc_calls.specs.Planned.{outcome_planned}
 use Rattle.osc_calls.specs.HeapPlans.{terms_of, malloc_by, free_by, free_of, realloc_by}
-use Rattle.osc_calls.specs.Plan.{plan_meant, plan_of, committed, plan_by, plan_waiting, plan}
+use Rattle.osc_calls.specs.Plan.{plan_meant, plan_of, plan_by, plan_waiting, plan}
 use Rattle.osc_calls.specs.Begin.{no_words, first_step, begun_in, begin_as, begin_call, begin}
 use Rattle.osc_calls.specs.JobDone.{job_done, entries}
 use Rattle.osc_calls.specs.Finish.{finish}
@@ -31,7 +31,7 @@ use Rattle.osc_settled.proofs.Lists.{get-put_same}
 use Rattle.osc_settled.proofs.Outcomes.{Asks, asks, caller_lives}
 use Rattle.osc_settled.proofs.Answering.{settled, has_terms}
 use Rattle.osc_settled.proofs.Beginning.{at_rest, asks_as}
-use Rattle.osc_safe.specs.KernelSteps.{KernelStep, Kept, Begins, Plans, EndsJob, Finishes}
+use Rattle.osc_safe.specs.KernelSteps.{Kept, Begins, Plans, EndsJob, Finishes}
 use Rattle.osc_safe.proofs.CallSteps.{finished-home}
 use Rattle.osc_records.proofs.Tops.{HasTop, malloc_by-top, free_of-top, realloc_by-top}
 use Rattle.osc_showing.specs.Showing.{closes, is_closed}

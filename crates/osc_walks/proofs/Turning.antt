@@ -1,5 +1,5 @@
 -- What a step makes of the guest part of each hart.
-use Rattle.std.proofs.Common.{ℕ, ◌≡◌, Some, List, slice_get, slice_set, refl, ap}
+use Rattle.std.proofs.Common.{ℕ, ◌≡◌, Some, slice_get, slice_set, ap}
 use Rattle.osc_guest.specs.Told.{Told, told}
 use Rattle.osc_guest.specs.Told as heard
 use Rattle.osc_machine.specs.Parts.{HartState, State}

@@ -1,5 +1,5 @@
 -- Each step keeps what each hart relies on in an instruction.
-use Rattle.std.proofs.Common.{ℕ, suc, ◌%◌, ◌≡◌, ◌≢◌, ◌<◌, ◌==◌, Bool, true, false, Option, Some, None, is_some, List, [], ◌∷◌, length, set, slice_get, slice_set, arith, refl, sym, ap, subst, ◌∙◌}
+use Rattle.std.proofs.Common.{ℕ, ◌%◌, ◌≡◌, ◌≢◌, ◌==◌, Bool, true, false, Option, Some, None, is_some, List, set, slice_get, arith, refl, sym, ap, subst, ◌∙◌}
 use Rattle.std.proofs.lemmas.Bool.Decides.{nat_tests}
 use Rattle.osc_word.specs.declared.calls.Request.{Request}
 use Rattle.osc_word.specs.declared.job_list.WordAt.{WordAt}
@@ -7,8 +7,6 @@ use Rattle.osc_sv39.specs.Walk.{piece, number_of, word_at, put_word}
 use Rattle.osc_paging.specs.Boxes.{BoxState}
 use Rattle.osc_paging.proofs.WordLists.{slice_get-set}
 use Rattle.osc_guest.specs.declared.accesses.MemoryAccess.{MemoryAccess}
-use Rattle.osc_guest.specs.declared.places.Ask.{Ask}
-use Rattle.osc_guest.specs.declared.places.Ask.TheVariants as guest
 use Rattle.osc_guest.specs.declared.places.Place.{Place}
 use Rattle.osc_guest.specs.declared.places.Place.TheVariants as at
 use Rattle.osc_guest.specs.declared.places.Stage.{Stage}
@@ -24,9 +22,9 @@ use Rattle.osc_guest.proofs.Carry.{empty-ok, carries}
 use Rattle.osc_calls.specs.Kernel.{KernelState}
 use Rattle.osc_machine.specs.declared.HartAsk.{HartAsk}
 use Rattle.osc_machine.specs.declared.HartAsk.TheVariants as does
-use Rattle.osc_machine.specs.Parts.{Gate, CallPlace, Outside, HartState, State}
+use Rattle.osc_machine.specs.Parts.{CallPlace, Outside, HartState, State}
 use Rattle.osc_machine.specs.Turns.{HartTold, Box, Kernel, Word, Gate as ToldGate, OldVersion, Done, Turn, guest_ask, place_ask, hart_ask, hart_told, place_told, outside_told, handed_box, box_given, handed_kernel}
-use Rattle.osc_machine.specs.Step.{Stepped, stays, tells, with_box, with_gate, box_at, step}
+use Rattle.osc_machine.specs.Step.{Stepped, tells, with_box, with_gate, box_at, step}
 use Rattle.osc_machine.specs.Did.{Asks, Did, Stayed, TookBox, GaveBox, ChangedBox, Loaded, Stored, TookGate, FoundOldVersion, OpenedGate, TookKernel, GaveKernel}
 use Rattle.osc_machine.specs.Laws.{is_in_call, HasKernel}
 use Rattle.osc_machine.proofs.RowLaws.{steps_by_row}
@@ -35,11 +33,11 @@ use Rattle.osc_safe.specs.Holding.{is_asking, Holds}
 use Rattle.osc_safe.proofs.KernelRows.{home-is}
 use Rattle.osc_relying.specs.Relying.{PageOf, TableOf}
 use Rattle.osc_lasting.specs.Lasting.{StepsLast}
-use Rattle.osc_walks.specs.Walking.{AllWalk, Walkable, WalksKeep}
+use Rattle.osc_walks.specs.Walking.{Walkable, WalksKeep}
 use Rattle.osc_walks.proofs.Turning.{UserGoes, Stays, Hears, user-goes}
 use Rattle.osc_walks.proofs.Where.{Where, Home, Hand, where-is}
-use Rattle.osc_walks.proofs.Others.{ok-lasts, one-kernel, other-same, hart-lasts}
-use Rattle.osc_walks.proofs.Acting.{IsPlainTold, plain-told, box-told, word-told}
+use Rattle.osc_walks.proofs.Others.{ok-lasts, other-same, hart-lasts}
+use Rattle.osc_walks.proofs.Acting.{plain-told, box-told, word-told}
 
 -- ---- a hart that holds no box
 free-place : (Page : Pages) (Tab : Tabs) (pid : ℕ) (p : Place) → holds_box p ≡ false → PlaceOk Page Tab pid p
@@ -105,7 +103,6 @@ guest-asks number h at.Rest e = tt
 
 -- what is known of the hart that acts, in an instruction
 record Acts (s : State) (n : ℕ) (k now : KernelState) (h : HartState) : Type 0 where
-  last : StepsLast
   well : Walkable s k
   later : HasKernel (step s n).state now
   here : slice_get s.harts n ≡ Some h
@@ -259,8 +256,8 @@ calls-by s n k now h y x asked w here e row there did = go did
     go (TookKernel g z a b i) = turned (record s { kernel = None }) g (Kernel z) a.here i refl
     go (GaveKernel g a i) = turned (record s { kernel = handed_kernel g }) g Done a.here i refl
 
-acting-ok : (s : State) (n : ℕ) (k now : KernelState) (h y : HartState) → StepsLast → Walkable s k → HasKernel (step s n).state now → slice_get s.harts n ≡ Some h → slice_get (step s n).state.harts n ≡ Some y → HartOk (PageOf now n false) (TableOf now n) y.user
-acting-ok s n k now h y last w later here there = go (is_asking h.user.place) refl
+acting-ok : (s : State) (n : ℕ) (k now : KernelState) (h y : HartState) → Walkable s k → HasKernel (step s n).state now → slice_get s.harts n ≡ Some h → slice_get (step s n).state.harts n ≡ Some y → HartOk (PageOf now n false) (TableOf now n) y.user
+acting-ok s n k now h y w later here there = go (is_asking h.user.place) refl
   where
     holds : Holds s
     holds = w.holds
@@ -273,7 +270,7 @@ acting-ok s n k now h y last w later here there = go (is_asking h.user.place) re
     go true d = let asked = asked-of h.user.place d in calls-by s n k now h y (step s n) asked.0 w here asked.1 refl there (steps_by_row s n)
     go false d =
         let own = holds.hart n h here in
-        acts-by s n k now h y (step s n) (record { last = last; well = w; later = later; here = here; outside = outside h.place own.asking d; guest = d }) refl there (steps_by_row s n)
+        acts-by s n k now h y (step s n) (record { well = w; later = later; here = here; outside = outside h.place own.asking d; guest = d }) refl there (steps_by_row s n)
 
 -- ---- any other hart
 resting-ok : (s : State) (n m : ℕ) (k now : KernelState) (g : HartState) → StepsLast → Walkable s k → HasKernel (step s n).state now → slice_get s.harts m ≡ Some g → HartOk (PageOf now m false) (TableOf now m) g.user
@@ -315,7 +312,7 @@ walks_keep last s n k now w later m y there = go (m == n) refl
         let same : n ≡ m = grind (arith, nat_tests, d) in
         let mine : slice_get (step s n).state.harts n ≡ Some y = ap (slice_get (step s n).state.harts) same ∙ there in
         let h = hart-here s n y mine (slice_get s.harts n) refl in
-        subst (λ z. HartOk (PageOf now z false) (TableOf now z) y.user) same (acting-ok s n k now h.0 y last w later h.1 mine)
+        subst (λ z. HartOk (PageOf now z false) (TableOf now z) y.user) same (acting-ok s n k now h.0 y w later h.1 mine)
     go false d =
         let apart : m ≢ n = grind (arith, nat_tests, d) in
         resting-ok s n m k now y last w later (sym (others_stay s n m apart) ∙ there)

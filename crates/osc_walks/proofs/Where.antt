@@ -1,5 +1,5 @@
 -- Where the kernel and the boxes are, and what the jobs are of a call that leaves a hart its box.
-use Rattle.std.proofs.Common.{ℕ, zero, suc, ◌+◌, ◌≡◌, ◌≢◌, ◌<◌, ◌==◌, ◌⊎◌, inl, inr, ⊎_elim, if◌then◌else◌, Bool, true, false, Option, Some, None, is_some, List, [], ◌∷◌, ◌++◌, length, slice_get, arith, refl, sym, ap, subst, ◌∙◌}
+use Rattle.std.proofs.Common.{ℕ, suc, ◌+◌, ◌≡◌, ◌≢◌, ◌<◌, ◌==◌, ◌⊎◌, inl, inr, ⊎_elim, if◌then◌else◌, Bool, true, false, Option, Some, None, is_some, List, [], ◌∷◌, ◌++◌, length, slice_get, arith, refl, sym, ap, subst, ◌∙◌}
 use Rattle.std.specs.Option.{option_to_list}
 use Rattle.std.proofs.lemmas.Bool.Decides.{nat_tests}
 use Rattle.std.proofs.lemmas.Option.{slice_get_within}
@@ -22,7 +22,7 @@ use Rattle.osc_machine.specs.Step.{box_at}
 use Rattle.osc_machine.specs.Laws.{kernels_held, HasKernel}
 use Rattle.osc_safe.specs.Holding.{one_if, own_hand, hands, holds_for_call, HoldsAt, Holds}
 use Rattle.osc_safe.specs.Holders.{OneHas}
-use Rattle.osc_safe.specs.Standing.{StandsAt, Waits, IsCommitted, InHand, Stands}
+use Rattle.osc_safe.specs.Standing.{Waits, IsCommitted, InHand, Stands}
 use Rattle.osc_safe.proofs.HoldersLaws.{one_holds}
 use Rattle.osc_safe.proofs.KernelRows.{fits-of}
 use Rattle.osc_caches.specs.HeapShows.{is_heap_call, cleared_in, answer_in, OldGo, CallShows}
@@ -30,7 +30,7 @@ use Rattle.osc_caches.specs.Working.{ShowsAt}
 use Rattle.osc_caches.proofs.KeptShown.{kept_shown}
 use Rattle.osc_showing.specs.Showing.{Shows}
 use Rattle.osc_relying.specs.Shut.{goes_beside, AllShut}
-use Rattle.osc_stored.specs.Beside.{is_tell, AllTell}
+use Rattle.osc_stored.specs.Beside.{AllTell}
 use Rattle.osc_walks.specs.Walking.{Walkable}
 use Rattle.osc_walks.proofs.Leads.{PidShows, Quietly, InCall, Known}
 

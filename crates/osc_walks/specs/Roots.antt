@@ -24,6 +24,6 @@ abbrev pub StepsKeepRoots : Type 0
 StepsKeepRoots =
     (old new : KernelState) (shows : List Label) → FitsSome old → old.config.heap ≡ Oscar → KernelStep old new shows → RootsOpen old → RootsOpen new
 
--- and of the kernel that opens no call is under way
+-- and so it is of the kernel that opens
 abbrev pub StartRootsOpen : Type 0
 StartRootsOpen = (image : Image) (config : Config) → RootsOpen (open_kernel image config)
