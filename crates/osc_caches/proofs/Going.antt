@@ -45,7 +45,7 @@ waits-only : (a b : Bool) → (a || false) ≡ true → (a || b) ≡ true
 waits-only true b e = refl
 waits-only false b e = absurd (let z : ⊥ = grind (arith, e) in z)
 
-unchanged-go : (d : Draft) (a : Answer) → PagesGo d (unchanged a d)
+pub unchanged-go : (d : Draft) (a : Answer) → PagesGo d (unchanged a d)
 unchanged-go d a = record {
   pages = λ n m e. inl e;
   goes_on = λ n f g. record { object = g.object; o = g.o; is = g.is; has = g.has; goes = waits-only (is_waiting d.space g.object) (replaces a g.object) g.goes; at = g.at };

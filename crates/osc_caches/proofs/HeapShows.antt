@@ -35,17 +35,20 @@ use Rattle.osc_showing.specs.Showing.{IsWhole, IsQuiet, Shows}
 use Rattle.osc_showing.specs.PlanTurns.{PlanTurns}
 use Rattle.osc_showing.proofs.Plans.{unchanged-turns, malloc-turns, free-turns}
 use Rattle.osc_showing.proofs.ReallocPlans.{realloc-turns}
-use Rattle.osc_showing.proofs.Shown.{turns-show, same-shows, quiet-shows, clear-shows, put-shows, zero-shows}
+use Rattle.osc_showing.proofs.Shown.{tidy-of, turns-show, same-shows, quiet-shows, clear-shows, put-shows, zero-shows}
+use Rattle.osc_caches.specs.Going.{PagesGo}
 use Rattle.osc_caches.specs.HeapShows.{is_heap_call, cleared_in, CallShows, HeapPlansShow, HeapJobsShow}
+use Rattle.osc_caches.proofs.Going.{unchanged-go, malloc-go, free-go, realloc-go}
 
 -- ---- the plan
 -- a plan on the caller's memory that turns its tables
 outcome-shows : (words : List ℕ) (k : KernelState) (c : Calling) (p : Process) (o : Outcome) → Asks words k c → process_at k c.pid ≡ Some p → length o.draft.free ≡ length k.free
-    → PlanTurns k.config.harts (draft_of k p) o → CallShows (committed c (outcome_planned c.pid p k o)) c.pid words
-outcome-shows words k c p o a e size turns = record {
+    → PlanTurns k.config.harts (draft_of k p) o → PagesGo (draft_of k p) o → CallShows (committed c (outcome_planned c.pid p k o)) c.pid words
+outcome-shows words k c p o a e size turns go = record {
   old = p.space.tables;
   p = record p { space = o.draft.space };
   is = get-put_same k.processes c.pid p (record p { space = o.draft.space }) e;
+  was = record { free = k.free; tidy = tidy-of p.space.tables k.free words agree; pages = go.pages };
   shows = turns-show _ p.space.tables o.draft.space.tables k.free o.draft.free o.draft.jobs words agree turns.turned
       (let s = a.sizes.memory in let f = a.sizes.free in omega (arith, s, f, size)) turns.due;
 }
@@ -65,10 +68,13 @@ shown-by words found k c p kind oscar is a e (calls.Malloc size) h =
     (malloc_fits k.config.heap k.config.batch (entries k) words k.regions size (draft_of k p) (settled words k c p (entries k) a e)).takes.size
     (subst (λ z. PlanTurns k.config.harts (draft_of k p) (malloc_by z size (draft_of k p))) (sym (is ∙ oscar))
     (malloc-turns k.config.harts k.config.batch size (entries k) words k.regions (draft_of k p) (subst (λ z. Settled z k.config.batch (entries k) words k.regions (draft_of k p)) (is ∙ oscar) (settled words k c p (entries k) a e)) a.waits.jobs))
+    (subst (λ z. PagesGo (draft_of k p) (malloc_by z size (draft_of k p))) (sym (is ∙ oscar))
+    (malloc-go k.config.batch size (entries k) words k.regions (draft_of k p) (subst (λ z. Settled z k.config.batch (entries k) words k.regions (draft_of k p)) (is ∙ oscar) (settled words k c p (entries k) a e))))
 shown-by words found k c p kind oscar is a e (calls.Free pointer) h =
     outcome-shows words k c p (free_of k.config.heap (terms_of k) pointer found (draft_of k p)) a e
     (null_fits k.config.heap k.config.batch (entries k) words k.regions (terms_of k) pointer found (draft_of k p) (pointer == 0) (has_terms words k c a) (settled words k c p (entries k) a e)).takes.size
     (null (pointer == 0))
+    (null_go (pointer == 0))
   where
     oscars : Settled Oscar k.config.batch (entries k) words k.regions (draft_of k p)
     oscars = subst (λ z. Settled z k.config.batch (entries k) words k.regions (draft_of k p)) (is ∙ oscar) (settled words k c p (entries k) a e)
@@ -77,12 +83,20 @@ shown-by words found k c p kind oscar is a e (calls.Free pointer) h =
     null true = unchanged-turns k.config.harts k.config.batch (entries k) words k.regions (draft_of k p) answers.Nothing oscars a.waits.jobs
     null false = subst (λ z. PlanTurns k.config.harts (draft_of k p) (free_by z (terms_of k) pointer found (draft_of k p))) (sym (is ∙ oscar))
         (free-turns k.config.batch pointer (entries k) words k.regions (terms_of k) found (draft_of k p) oscars (has_terms words k c a) a.waits.jobs)
+
+    null_go : (b : Bool) → PagesGo (draft_of k p) (cond b (unchanged answers.Nothing (draft_of k p)) (free_by k.config.heap (terms_of k) pointer found (draft_of k p)))
+    null_go true = unchanged-go (draft_of k p) answers.Nothing
+    null_go false = subst (λ z. PagesGo (draft_of k p) (free_by z (terms_of k) pointer found (draft_of k p))) (sym (is ∙ oscar))
+        (free-go k.config.batch pointer (entries k) words k.regions (terms_of k) found (draft_of k p) oscars)
 shown-by words found k c p kind oscar is a e (calls.Realloc pointer size) h =
     outcome-shows words k c p (realloc_by k.config.heap (terms_of k) pointer size found (draft_of k p)) a e
     (realloc_fits k.config.heap k.config.batch (entries k) words k.regions (terms_of k) pointer size found (draft_of k p) (has_terms words k c a) (settled words k c p (entries k) a e)).takes.size
     (subst (λ z. PlanTurns k.config.harts (draft_of k p) (realloc_by z (terms_of k) pointer size found (draft_of k p))) (sym (is ∙ oscar))
     (realloc-turns k.config.batch pointer size (entries k) words k.regions (terms_of k) found (draft_of k p)
     (subst (λ z. Settled z k.config.batch (entries k) words k.regions (draft_of k p)) (is ∙ oscar) (settled words k c p (entries k) a e)) (has_terms words k c a) a.waits.jobs))
+    (subst (λ z. PagesGo (draft_of k p) (realloc_by z (terms_of k) pointer size found (draft_of k p))) (sym (is ∙ oscar))
+    (realloc-go k.config.batch pointer size (entries k) words k.regions (terms_of k) found (draft_of k p)
+    (subst (λ z. Settled z k.config.batch (entries k) words k.regions (draft_of k p)) (is ∙ oscar) (settled words k c p (entries k) a e))))
 shown-by words found k c p kind oscar is a e (calls.Exit status) h = absurd (let b : ⊥ = grind (arith, h) in b)
 shown-by words found k c p kind oscar is a e (calls.Write buf len) h = absurd (let b : ⊥ = grind (arith, h) in b)
 shown-by words found k c p kind oscar is a e calls.Fork h = absurd (let b : ⊥ = grind (arith, h) in b)
@@ -147,6 +161,7 @@ heap_jobs_show word pid words k job jobs s e = record {
   old = s.old;
   p = s.p;
   is = s.is;
+  was = s.was;
   shows = subst (λ js. Shows (cleared_in k.config.harts k.under_way) s.old s.p.space.tables k.free (drop 1 js) (words_done (entries k) job words)) (sym e)
       (job-shows _ s.old s.p.space.tables k.free (entries k) job jobs words (subst (λ js. Shows (cleared_in k.config.harts k.under_way) s.old s.p.space.tables k.free js words) e s.shows));
 }

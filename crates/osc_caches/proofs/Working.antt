@@ -41,6 +41,7 @@ job-then k pid words job e s = record {
   old = s.old;
   p = s.p;
   is = s.is;
+  was = s.was;
   shows = subst (Shows (cleared_in k.config.harts k.under_way) s.old s.p.space.tables k.free (drop 1 k.jobs)) (sym (unread (moves_of (entries k) job) words ∙ moves_do_job (entries k) job words))
       (job-shows (cleared_in k.config.harts k.under_way) s.old s.p.space.tables k.free (entries k) job (drop 1 k.jobs) words
       (subst (λ js. Shows (cleared_in k.config.harts k.under_way) s.old s.p.space.tables k.free js words) (first-rest k.jobs job e) s.shows));
@@ -136,7 +137,7 @@ shows-stored harts old t free js words frame index value s n l =
     let same = stored-same t words frame index value l n in same-shows harts old t free js words (put_word words frame index value) s same.size (λ f i m h c. same.same f i m h)
 
 with-words : (k : KernelState) (pid : ℕ) (words now : List ℕ) (s : CallShows k pid words) → Shows (cleared_in k.config.harts k.under_way) s.old s.p.space.tables k.free k.jobs now → CallShows k pid now
-with-words k pid words now s shows = record { old = s.old; p = s.p; is = s.is; shows = shows }
+with-words k pid words now s shows = record { old = s.old; p = s.p; is = s.is; was = s.was; shows = shows }
 
 elsewhere : (k : KernelState) (pid : ℕ) (words : List ℕ) (moves : List Move) → WorksOn k moves → (s : CallShows k pid words) → AllMoveElsewhere s.p.space.tables moves
 elsewhere k pid words moves w s =
@@ -183,7 +184,7 @@ unfolding job_done
 work-ended k pid word moves read words now s d e =
     let q : now ≡ words_then moves read words = subst (λ p. InEnd p now ≡ words_then moves read words) e (moved moves read word words now d) in
     let later : CallShows (without_job k) pid now = subst (CallShows (without_job k) pid) (sym q) s.then in
-    record { old = later.old; p = later.p; is = later.is; shows = later.shows }
+    record { old = later.old; p = later.p; is = later.is; was = later.was; shows = later.shows }
 
 -- ---- a store of another hart
 call-stored : (k : KernelState) (pid frame index value : ℕ) (words : List ℕ) → CallShows k pid words → ((p : Process) → process_at k pid ≡ Some p → IsNoTable p.space.tables frame) → index < 512
@@ -203,6 +204,7 @@ then-stored k pid frame index value moves read words w s n l =
       old = x.old;
       p = x.p;
       is = x.is;
+      was = x.was;
       shows = same-shows _ x.old t k.free (drop 1 k.jobs) (words_then moves read words) (words_then moves read (put_word words frame index value)) x.shows same.size (λ f i m h c. same.same f i m h);
     }
 

@@ -1,5 +1,5 @@
 -- What each step of the kernel leaves of the pages and tables that a hart may rely on. This project's own.
-use Rattle.std.specs.Prelude.{ℕ, ◌≡◌, ◌<◌, Bool, true, false, Some, None, List, []}
+use Rattle.std.specs.Prelude.{ℕ, ◌≡◌, ◌<◌, if◌then◌else◌, Bool, true, false, Some, List, []}
 use Rattle.osc_word.specs.declared.calls.Request.{Request}
 use Rattle.osc_word.specs.declared.job_list.Job.{Job}
 use Rattle.osc_word.specs.declared.settings.HeapKind.TheVariants.{Oscar}
@@ -12,6 +12,7 @@ use Rattle.osc_calls.specs.Finish.{finish}
 use Rattle.osc_settled.specs.Records.{ending}
 use Rattle.osc_settled.specs.KernelFits.{KernelFits}
 use Rattle.osc_showing.specs.Showing.{clears}
+use Rattle.osc_blocks.specs.Replacing.{ReplacesAtFlush}
 use Rattle.osc_relying.specs.Levels.{LevelsFit}
 use Rattle.osc_relying.specs.Relying.{PageOf, TableOf}
 
@@ -37,13 +38,30 @@ pub record LastsReturned (old new : KernelState) : Type 0 where
   pub tables : (n pid level page table : ℕ) → n < old.config.harts → (ending old.under_way ≡ Some pid → ⊥)
       → TableOf old n pid level page table → TableOf new n pid level page table
 
--- ---- the law, for each step of the kernel
+-- ---- the laws, for each step of the kernel
+abbrev pub BeginsLast : Type 0
+BeginsLast =
+    (words regs : List ℕ) (hart pc : ℕ) (asked : Request) (k : KernelState) → KernelFits words k → LevelsFit k → k.config.heap ≡ Oscar
+    → k.under_way ≡ Quiet → Lasts k (begin hart regs pc asked k).kernel each_hart
+
+abbrev pub PlansLast : Type 0
+PlansLast =
+    (words : List ℕ) (found : Found) (c : Calling) (k : KernelState) → KernelFits words k → LevelsFit k → k.config.heap ≡ Oscar
+    → k.under_way ≡ Waiting c → Lasts k (plan found k).kernel each_hart
+
+abbrev pub JobsLast : Type 0
+JobsLast =
+    (words : List ℕ) (word : ℕ) (job : Job) (k : KernelState) → KernelFits words k → LevelsFit k → k.config.heap ≡ Oscar
+    → next_job k ≡ Some job → Lasts k (job_done word k).kernel (spared_by job)
+
+abbrev pub FinishesLast : Type 0
+FinishesLast =
+    (words : List ℕ) (k : KernelState) → KernelFits words k → LevelsFit k → k.config.heap ≡ Oscar
+    → ReplacesAtFlush k → k.jobs ≡ [] → LastsReturned k (finish k).kernel
+
+-- all together
 pub record StepsLast : Type 0 where
-  pub begins : (words regs : List ℕ) (hart pc : ℕ) (asked : Request) (k : KernelState) → KernelFits words k → LevelsFit k → k.config.heap ≡ Oscar
-      → k.under_way ≡ Quiet → Lasts k (begin hart regs pc asked k).kernel each_hart
-  pub plans : (words : List ℕ) (found : Found) (c : Calling) (k : KernelState) → KernelFits words k → LevelsFit k → k.config.heap ≡ Oscar
-      → k.under_way ≡ Waiting c → Lasts k (plan found k).kernel each_hart
-  pub jobs : (words : List ℕ) (word : ℕ) (job : Job) (k : KernelState) → KernelFits words k → LevelsFit k → k.config.heap ≡ Oscar
-      → next_job k ≡ Some job → Lasts k (job_done word k).kernel (spared_by job)
-  pub finishes : (words : List ℕ) (k : KernelState) → KernelFits words k → LevelsFit k → k.config.heap ≡ Oscar
-      → k.jobs ≡ [] → LastsReturned k (finish k).kernel
+  pub begins : BeginsLast
+  pub plans : PlansLast
+  pub jobs : JobsLast
+  pub finishes : FinishesLast

@@ -1,1 +1,2 @@
 mod Picking
+pub mod Safety

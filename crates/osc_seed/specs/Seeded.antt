@@ -1,9 +1,17 @@
 -- Seeded runs: a seed picks the hart of each step, until the machine is over or so many picks are made.
-use Rattle.std.specs.Prelude.{ℕ, ◌≡◌, Bool, true, false, List, length}
+use Rattle.std.specs.Prelude.{ℕ, ◌≡◌, ◌≤◌, Bool, true, false, None, Ok, List, length}
+use Rattle.osc_word.specs.declared.settings.Config.{Config}
+use Rattle.osc_word.specs.declared.settings.HeapKind.TheVariants.{Oscar}
+use Rattle.osc_word.specs.Limits.{first_fault}
+use Rattle.osc_image.specs.Image.{Image}
+use Rattle.osc_image.specs.Frames.{needed_frames}
+use Rattle.osc_image.specs.Form.{image_of}
 use Rattle.osc_machine.specs.Parts.{State}
 use Rattle.osc_machine.specs.Views.{machine_over}
 use Rattle.osc_machine.specs.Picks.{picks}
 use Rattle.osc_machine.specs.Run.{run, until_over}
+use Rattle.osc_machine.specs.Safe.{Safe}
+use Rattle.osc_machine.specs.Start.{start_of}
 use Rattle.osc_seed.specs.declared.SeededEnd.{SeededEnd}
 use Rattle.osc_seed.specs.declared.SeededEnd.TheVariants.{Over, Spent}
 
@@ -22,3 +30,11 @@ abbrev pub SpentMakesAll : Type 0
 SpentMakesAll =
     (s : State) (seed count : ℕ) → machine_over (run s (picks_made s seed count)).state ≡ false
     → picks_made s seed count ≡ picks (length s.harts) seed count
+
+-- on the heap with shadows a run over these picks is safe, if it begins with the image of a file that the frames
+-- hold and a configuration in range
+abbrev pub SafeFromStart : State → List ℕ → Type 0
+SafeFromStart s made =
+    (file : List ℕ) (image : Image) (config : Config)
+    → first_fault config ≡ None → image_of file ≡ Ok image → needed_frames config.levels image ≤ config.frames → config.heap ≡ Oscar
+    → s ≡ start_of image config → Safe s made

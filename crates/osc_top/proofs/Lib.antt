@@ -2,3 +2,4 @@ pub mod Sinks
 pub mod Files
 pub mod Pieces
 pub mod Runs
+pub mod Safety

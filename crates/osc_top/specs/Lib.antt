@@ -4,3 +4,4 @@ pub mod Making
 pub mod Loading
 pub mod Answer
 pub mod Deciding
+pub mod Safety

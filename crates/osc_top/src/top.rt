@@ -8,12 +8,14 @@ ghost use Rattle.osc_core.specs.Ends.{EndFits};
 ghost use Rattle.osc_core.specs.Shared.{state_of};
 ghost use Rattle.osc_core.specs.Sound.{Sound};
 ghost use Rattle.osc_machine.specs.Run.{run};
-ghost use Rattle.osc_cli.specs.Words.{IsReady};
+ghost use Rattle.osc_cli.specs.Words.{asked, IsReady};
 ghost use Rattle.osc_top.specs.Due.{due_of, image_due, run_due, HasGuestStatus};
 ghost use Rattle.osc_top.specs.Answer.{Answers, Quiet, TaskAnswers, TaskDecided};
 ghost use Rattle.osc_top.specs.Deciding.{due_in, words_outcome, ComesTo, Decides, DecidesFor, IsSound, Obtains};
 ghost use Rattle.osc_top.specs.Making.{IsDue};
 ghost use Rattle.osc_top.specs.Loading.{IsQuietRead};
+ghost use Rattle.osc_top.specs.Safety.{RunsSafely};
+ghost use Rattle.osc_cli.specs.declared.task.Task.{Task};
 ghost use Rattle.osc_top.specs.declared.outcome.Outcome.TheVariants.{SourceFault};
 
 use crate::decision::{Decision, Over};
@@ -156,7 +158,8 @@ fn decide<S: Source>(alloc: Global, task: &Task, source: &mut S) -> Decision
 /// | 72 | in mode asm, exactly where the text has no file, with its first fault |
 ///
 /// The source is read to its end, or to 16 MiB and one byte; in mode gen it is not read. With another status
-/// than 66 and 67 no call of source or sinks failed: none is tried again.
+/// than 66 and 67 no call of source or sinks failed: none is tried again. On the heap with shadows the run is
+/// safe (clause `safe`): no access to a freed object's pages after its free returned is done.
 pub fn oscar_seeded<S: Source, O: Sink, E: Sink>(
     alloc: Global,
     task: &Task,
@@ -172,6 +175,7 @@ pub fn oscar_seeded<S: Source, O: Sink, E: Sink>(
         (Rose (O.faults out.old) (O.faults out.new)) (Rose (E.faults err.old) (E.faults err.new)) result.0 }
     ensures quiet { Quiet (S.faults source.old) (S.faults source.new) (O.faults out.old) (O.faults out.new)
         (E.faults err.old) (E.faults err.new) result.0 }
+    ensures safe { RunsSafely task.now (S.left source.old) (S.left source.new) }
 {
     let decision = decide(alloc, task, source);
     deliver(&decision, out, err)
@@ -206,6 +210,8 @@ pub fn oscar<S: Source, O: Sink, E: Sink>(
         (Rose (O.faults out.old) (O.faults out.new)) (Rose (E.faults err.old) (E.faults err.new)) result.0 }
     ensures quiet { Quiet (S.faults source.old) (S.faults source.new) (O.faults out.old) (O.faults out.new)
         (E.faults err.old) (E.faults err.new) result.0 }
+    ensures safe { (task : Task) → asked (map (λ word. word.now) words.now) ≡ Ok task
+        → RunsSafely task (S.left source.old) (S.left source.new) }
 {
     match read_words(alloc, words) {
         Ok(task) => oscar_seeded(alloc, &task, source, out, err),

@@ -3,6 +3,7 @@ use Rattle.osc_machine.specs.Picks.{picked, next_seed}
 use Rattle.osc_machine.specs.Step.{step}
 use Rattle.osc_core.specs.Shared.{Seen, state_of}
 use Rattle.osc_seed.proofs.Picking.{starts, goes_on, stops_over, stops_spent, over_after}
+use Rattle.osc_seed.proofs.Safety.{safe-from-start}
 use Rattle.osc_seed.proofs.seeded.run_seeded.Goals as goal
 
 pub loop-made-init : goal.loop-made-init
@@ -42,3 +43,12 @@ returns-then-over-2-clause-end c =
 
 pub returns-else-over-2-clause-state : goal.returns-else-over-2-clause-state
 returns-else-over-2-clause-state c = (stops_spent _ _ _ _ _ _ _ c.loop-made-test.false c.loop-made.invariant.stands).state
+
+pub returns-then-over-clause-safe : goal.returns-then-over-clause-safe
+returns-then-over-clause-safe c = safe-from-start _ _
+
+pub returns-then-over-2-clause-safe : goal.returns-then-over-2-clause-safe
+returns-then-over-2-clause-safe c = safe-from-start _ _
+
+pub returns-else-over-2-clause-safe : goal.returns-else-over-2-clause-safe
+returns-else-over-2-clause-safe c = safe-from-start _ _

@@ -1,0 +1,4 @@
+pub mod Runs
+pub mod ConfigSteps
+pub mod BlockSteps
+pub mod ReplacedSteps

@@ -1,0 +1,3 @@
+pub mod AllBlocks
+pub mod Replacing
+pub mod Configs

@@ -1,0 +1,3 @@
+pub mod BesideSteps
+pub mod Copying
+pub mod Storing

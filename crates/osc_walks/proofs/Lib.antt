@@ -1,0 +1,9 @@
+pub mod Turning
+pub mod Canonical
+pub mod Roots
+pub mod Leads
+pub mod Where
+pub mod Endings
+pub mod Others
+pub mod Acting
+pub mod Walking
