@@ -5,7 +5,7 @@ use Rattle.clap.specs.Words.{Text}
 use Rattle.osc_word.specs.declared.settings.HeapKind.{HeapKind}
 use Rattle.osc_word.specs.declared.settings.HeapKind.TheVariants.{Oscar, Plain}
 use Rattle.osc_cli.specs.declared.task.Mode.{Mode}
-use Rattle.osc_cli.specs.declared.task.Mode.TheVariants.{Run, Seed, Object, Gen}
+use Rattle.osc_cli.specs.declared.task.Mode.TheVariants.{Run, Seed, Object, Gen, Asm, Disasm}
 
 -- what a text names
 abbrev pub named : {T : Type 0} → List (Text × T) → Text → Option T
@@ -16,18 +16,22 @@ abbrev pub modes : List (Text × Mode)
 modes =
     (codes "seed", Seed)
     ∷ (codes "gen", Gen)
+    ∷ (codes "asm", Asm)
+    ∷ (codes "disasm", Disasm)
     ∷ []
 
 unfoldable pub mode_of : Option Text → Option Mode
 mode_of None = Some Seed
 mode_of (Some text) = named modes text
 
--- the modes that run under the plain heap too
+-- the modes that the plain heap may be given to
 abbrev pub has_plain : Mode → Bool
 has_plain Run = true
 has_plain Seed = true
 has_plain Object = false
 has_plain Gen = true
+has_plain Asm = true
+has_plain Disasm = true
 
 abbrev pub heaps : Mode → List (Text × HeapKind)
 heaps mode = (codes "oscar", Oscar) ∷ (if has_plain mode then (codes "plain", Plain) ∷ [] else [])

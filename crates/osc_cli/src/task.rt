@@ -19,7 +19,7 @@ use clap::{ArgMatches, Error};
 use osc_word::{Config, HeapKind, OptionNo};
 use std::alloc::{AllocError, Global};
 
-/// How a machine is run.
+/// How a machine is run, or what is made without one.
 #[derive(Clone, Copy, Debug, PartialEq, Eq)]
 pub enum Mode {
     /// Each hart in a thread of its own.
@@ -30,6 +30,10 @@ pub enum Mode {
     Object,
     /// As `Seed`, with the guest that a number gives.
     Gen,
+    /// A text is assembled to an image.
+    Asm,
+    /// The code of an image is listed as text.
+    Disasm,
 }
 
 /// What the words ask for. A field that the mode does not use is read all the same.
@@ -80,11 +84,13 @@ fn mode_of(text: Option<&str>) -> Option<Mode>
     match text {
         None | Some("seed") => Some(Mode::Seed),
         Some("gen") => Some(Mode::Gen),
+        Some("asm") => Some(Mode::Asm),
+        Some("disasm") => Some(Mode::Disasm),
         Some(_) => None,
     }
 }
 
-/// Whether a mode runs under the plain heap too.
+/// Whether the plain heap may be given to a mode.
 fn has_plain(mode: Mode) -> bool
     ensures { result ≡ choices.has_plain mode }
 {

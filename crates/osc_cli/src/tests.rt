@@ -209,3 +209,37 @@ fn no_word_at_all(rt: HostRuntime) -> Result<(), Fail> {
     assert_eq!(rt; read_words(rt.alloc(), none.as_slice()), Ok(defaults()));
     Ok(())
 }
+
+/// Lines that name a mode, with it and the heap.
+static MODES: [(&str, Mode, HeapKind); 4] = [
+    ("oscar --mode asm", Mode::Asm, HeapKind::Oscar),
+    ("oscar --mode disasm", Mode::Disasm, HeapKind::Oscar),
+    ("oscar --heap plain --mode asm", Mode::Asm, HeapKind::Plain),
+    (
+        "oscar --heap plain --mode=disasm",
+        Mode::Disasm,
+        HeapKind::Plain,
+    ),
+];
+
+#[test]
+fn modes_without_a_machine(rt: HostRuntime) {
+    for (line, mode, heap) in &MODES {
+        let task = Task {
+            mode: *mode,
+            config: Config {
+                heap: *heap,
+                ..defaults().config
+            },
+            ..defaults()
+        };
+        assert_eq!(rt; asked(rt.alloc(), line), Ok(task), "at {line}");
+    }
+    for line in ["oscar --mode ASM", "oscar --mode disas"] {
+        assert_eq!(rt;
+            asked(rt.alloc(), line),
+            Err(WordsFault::Value(0)),
+            "at {line}"
+        );
+    }
+}

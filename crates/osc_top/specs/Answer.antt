@@ -5,13 +5,14 @@ use Rattle.clap.specs.Words.{Text}
 use Rattle.osc_outside.specs.Bytes.{Appends}
 use Rattle.osc_cli.specs.declared.task.Task.{Task}
 use Rattle.osc_cli.specs.declared.task.Mode.{Mode}
-use Rattle.osc_cli.specs.declared.task.Mode.TheVariants.{Run, Seed, Object, Gen}
+use Rattle.osc_cli.specs.declared.task.Mode.TheVariants.{Run, Seed, Object, Gen, Asm, Disasm}
 use Rattle.osc_cli.specs.declared.task.WordsFault.TheVariants as words_fault
 use Rattle.osc_cli.specs.Words.{asked}
 use Rattle.osc_gen.specs.Guest.{guest_file}
 use Rattle.osc_top.specs.declared.outcome.Outcome.{Outcome}
-use Rattle.osc_top.specs.declared.outcome.Outcome.TheVariants.{UnknownWords, BadOption, BadImage, NoRoom, SourceFault, NoMemory, Spent, Fault, Exit}
-use Rattle.osc_top.specs.Due.{Due, due_of, refused, status_of, sink_fault, source_fault}
+use Rattle.osc_top.specs.declared.outcome.Outcome.TheVariants.{UnknownWords, BadOption, BadImage, NoRoom, SourceFault, NoMemory, Spent, Fault, Exit, BadText, Done}
+use Rattle.osc_top.specs.Due.{Due, refused, status_of, sink_fault, source_fault}
+use Rattle.osc_top.specs.Making.{IsDue}
 use Rattle.osc_top.specs.Loading.{longest_read, TakesPart}
 
 -- ---- the file
@@ -29,6 +30,8 @@ HasFile Run number before after file = IsRead before after file
 HasFile Seed number before after file = IsRead before after file
 HasFile Object number before after file = IsRead before after file
 HasFile Gen number before after file = (file ≡ guest_file number) × (after ≡ before)
+HasFile Asm number before after file = IsRead before after file
+HasFile Disasm number before after file = IsRead before after file
 
 -- only the front of what the source had was taken, and nothing in the mode that reads no source
 abbrev pub TakesFront : Mode → Option (List ℕ) → Option (List ℕ) → Type 0
@@ -36,13 +39,15 @@ TakesFront Run before after = TakesPart before after
 TakesFront Seed before after = TakesPart before after
 TakesFront Object before after = TakesPart before after
 TakesFront Gen before after = after ≡ before
+TakesFront Asm before after = TakesPart before after
+TakesFront Disasm before after = TakesPart before after
 
 -- ---- what a task comes to
 
 -- the task's file was there whole, and what is due is what it gives
 pub record FromFile (task : Task) (before after : Option (List ℕ)) (due : Due) : Type 0 where
   pub file : List ℕ
-  pub gives : due ≡ due_of task file
+  pub gives : IsDue task file due
   pub had : HasFile task.mode task.number before after file
 
 -- nothing was run, and err is due the line that says why
@@ -62,6 +67,8 @@ TaskCause task before after rose due (NoRoom needed frames) = FromFile task befo
 TaskCause task before after rose due (Spent picks) = FromFile task before after due
 TaskCause task before after rose due Fault = FromFile task before after due
 TaskCause task before after rose due (Exit status) = (status < 64) × FromFile task before after due
+TaskCause task before after rose due (BadText fault) = FromFile task before after due
+TaskCause task before after rose due Done = FromFile task before after due
 
 abbrev pub TaskDecided : Task → Option (List ℕ) → Option (List ℕ) → Type 0 → Due → Type 0
 TaskDecided task before after rose due = TaskCause task before after rose due due.outcome
@@ -93,6 +100,8 @@ WordsCause words before after rose due (NoRoom needed frames) = FromTask words b
 WordsCause words before after rose due (Spent picks) = FromTask words before after rose due
 WordsCause words before after rose due Fault = FromTask words before after rose due
 WordsCause words before after rose due (Exit status) = FromTask words before after rose due
+WordsCause words before after rose due (BadText fault) = FromTask words before after rose due
+WordsCause words before after rose due Done = FromTask words before after rose due
 
 abbrev pub WordsDecided : List Text → Option (List ℕ) → Option (List ℕ) → Type 0 → Due → Type 0
 WordsDecided words before after rose due = WordsCause words before after rose due due.outcome

@@ -10,9 +10,10 @@ use Rattle.osc_top.specs.declared.outcome.Outcome.TheVariants.{UnknownWords, Bad
 use Rattle.osc_top.specs.declared.outcome.Refusal.{Refusal}
 use Rattle.osc_top.specs.declared.outcome.Refusal.TheVariants as refusal
 use Rattle.osc_top.specs.declared.decision.Decision.{Decision}
-use Rattle.osc_top.specs.declared.decision.Decision.TheVariants.{Refused, Ran}
+use Rattle.osc_top.specs.declared.decision.Decision.TheVariants.{Refused, Ran, Made}
 use Rattle.osc_top.specs.declared.decision.Over.{Over}
-use Rattle.osc_top.specs.Due.{Due, due_of, over_due, refused, HasGuestStatus}
+use Rattle.osc_top.specs.Due.{Due, over_due, refused, HasGuestStatus}
+use Rattle.osc_top.specs.Making.{done, IsDue}
 use Rattle.osc_top.specs.Answer.{HasFile, TakesFront}
 use Rattle.osc_core.specs.Shared.{state_of}
 use Rattle.osc_core.specs.Sound.{Sound}
@@ -26,11 +27,13 @@ state_in over = state_of over.machine over.harts.items
 abbrev pub due_in : Decision → Due
 due_in (Refused outcome) = refused outcome
 due_in (Ran over) = over_due over.picks (state_in over)
+due_in (Made output) = done output.items
 
 -- a run that is over is one of a machine that is sound
 abbrev pub IsSound : Decision → Type 0
 IsSound (Refused outcome) = Unit {0}
 IsSound (Ran over) = Sound (state_in over)
+IsSound (Made output) = Unit {0}
 
 -- what is due is decided
 pub record Decides (d : Decision) (due : Due) : Type 0 where
@@ -38,10 +41,16 @@ pub record Decides (d : Decision) (due : Due) : Type 0 where
   pub guest : HasGuestStatus (due_in d).outcome
   pub sound : IsSound d
 
+-- something due that is wanted is decided
+pub record DecidesFor (d : Decision) (IsWanted : Due → Type 0) : Type 0 where
+  pub due : Due
+  pub decides : Decides d due
+  pub wanted : IsWanted due
+
 -- the file of a task was had
 pub record HasBytes (task : Task) (before after : Option (List ℕ)) (file : List ℕ) : Type 0 where
   pub all : List ℕ
-  pub same : due_of task file ≡ due_of task all
+  pub same : (due : Due) → IsDue task file due → IsDue task all due
   pub had : HasFile task.mode task.number before after all
   pub front : TakesFront task.mode before after
 
@@ -59,7 +68,7 @@ Obtains task before after rose (Err why) = StopsTask task before after rose why
 -- a decision was made on the file of the task
 pub record IsDecided (task : Task) (before after : Option (List ℕ)) (d : Decision) : Type 0 where
   pub file : List ℕ
-  pub decides : Decides d (due_of task file)
+  pub decides : DecidesFor d (IsDue task file)
   pub had : HasFile task.mode task.number before after file
 
 abbrev pub ComesTo : Task → Option (List ℕ) → Option (List ℕ) → Type 0 → Result Decision Refusal → Type 0

@@ -1,5 +1,5 @@
--- What is due for a task and a file: how the call ends, with which status, the guest's output, and the text
--- for err. This project's own.
+-- What is due for a task and a file: how the call ends, with which status, the output, and the text for
+-- err. This project's own.
 use Rattle.std.specs.Prelude.{ℕ, ◌<◌, nat_lt, if◌then◌else◌, List, [], ◌∷◌, ◌++◌, length, codes, Option, Some, None, Result, Ok, Err}
 use Rattle.std.specs.Fmt.{decimal}
 use Rattle.osc_image.specs.declared.ImageFault.{ImageFault}
@@ -17,8 +17,8 @@ use Rattle.osc_seed.specs.Seeded.{picks_made}
 use Rattle.osc_cli.specs.declared.task.Task.{Task}
 use Rattle.osc_cli.specs.Command.{name_at}
 use Rattle.osc_top.specs.declared.outcome.Outcome.{Outcome}
-use Rattle.osc_top.specs.declared.outcome.Outcome.TheVariants.{UnknownWords, BadOption, BadImage, NoRoom, SourceFault, NoMemory, Spent, Fault, Exit}
-use Rattle.osc_top.specs.Texts.{fault_text, line}
+use Rattle.osc_top.specs.declared.outcome.Outcome.TheVariants.{UnknownWords, BadOption, BadImage, NoRoom, SourceFault, NoMemory, Spent, Fault, Exit, BadText, Done}
+use Rattle.osc_top.specs.Texts.{fault_text, line, text_fault}
 
 -- the exit status of the program
 abbrev pub status_of : Outcome → ℕ
@@ -31,6 +31,8 @@ status_of NoMemory = 68
 status_of (Spent picks) = 69
 status_of Fault = 70
 status_of (Exit status) = status
+status_of (BadText fault) = 72
+status_of Done = 0
 
 -- a guest's status is below 64
 abbrev pub HasGuestStatus : Outcome → Type 0
@@ -43,6 +45,8 @@ HasGuestStatus NoMemory = Unit {0}
 HasGuestStatus (Spent picks) = Unit {0}
 HasGuestStatus Fault = Unit {0}
 HasGuestStatus (Exit status) = status < 64
+HasGuestStatus (BadText fault) = Unit {0}
+HasGuestStatus Done = Unit {0}
 
 -- the statuses where the source failed, and where a sink did
 abbrev pub source_fault : ℕ
@@ -56,7 +60,7 @@ sink_fault = 67
 abbrev pub option_text : ℕ → List (List ℕ)
 option_text place = codes "oscar: usage: --" ∷ name_at place ∷ []
 
--- why, in pieces; nothing of a guest that ended
+-- why, in pieces; nothing of a guest that ended and of work that was done
 abbrev pub refusal_text : Outcome → List (List ℕ)
 refusal_text UnknownWords = codes "oscar: usage: words" ∷ []
 refusal_text (BadOption place) = option_text place
@@ -67,12 +71,14 @@ refusal_text NoMemory = codes "oscar: no memory" ∷ []
 refusal_text (Spent picks) = codes "oscar: spent: picks " ∷ decimal picks ∷ []
 refusal_text Fault = []
 refusal_text (Exit status) = []
+refusal_text (BadText fault) = codes "oscar: text: " ∷ text_fault fault
+refusal_text Done = []
 
 -- its line
 abbrev pub refusal_line : Outcome → List ℕ
 refusal_line outcome = line (refusal_text outcome)
 
--- how the call ends, the guest's output for out, and the text for err
+-- how the call ends, the output for out, and the text for err
 pub record Due : Type 0 where
   pub outcome : Outcome
   pub output : List ℕ

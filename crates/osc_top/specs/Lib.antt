@@ -1,5 +1,6 @@
 pub mod Texts
 pub mod Due
+pub mod Making
 pub mod Loading
 pub mod Answer
 pub mod Deciding

@@ -7,6 +7,8 @@ use Rattle.osc_image.specs.declared.ImageFault.{ImageFault}
 use Rattle.osc_image.specs.declared.ImageFault.TheVariants.{TooLong, Truncated, Magic, Class, FileType, Machine, Version, Flags, HeaderSize, Segment, WriteExec, Entry, Memory}
 use Rattle.osc_image.specs.declared.SegmentWhy.{SegmentWhy}
 use Rattle.osc_image.specs.declared.SegmentWhy.TheVariants.{TableEnd, Dynamic, Interpreter, ThreadStorage, Sizes, FileEnd, Range}
+use Rattle.osc_assemble.specs.declared.TextFault.{TextFault}
+use Rattle.osc_assemble.specs.declared.TextFault.TheVariants as text
 use Rattle.osc_machine.specs.Due.{ended_line}
 
 abbrev pub why_text : SegmentWhy → List ℕ
@@ -36,6 +38,20 @@ fault_text (Segment index why) = segment_text index why
 fault_text (WriteExec page) = codes "write and execute at 0x" ∷ digits 16 false page ∷ codes "000" ∷ []
 fault_text (Entry address) = codes "entry 0x" ∷ digits 16 false address ∷ []
 fault_text Memory = codes "no memory" ∷ []
+
+-- why a line of a text is refused, in pieces
+abbrev pub line_fault : ℕ → List ℕ → List (List ℕ)
+line_fault number why = codes "line " ∷ decimal number ∷ why ∷ []
+
+-- why a text is not assembled, in pieces
+abbrev pub text_fault : TextFault → List (List ℕ)
+text_fault text.TooLong = codes "too long" ∷ []
+text_fault (text.Form number) = line_fault number (codes " form")
+text_fault (text.Bound number) = line_fault number (codes " bound")
+text_fault (text.Label number) = line_fault number (codes " label")
+text_fault (text.Far number) = line_fault number (codes " far")
+text_fault text.FileTooLong = codes "file too long" ∷ []
+text_fault text.Memory = codes "no memory" ∷ []
 
 -- the line of its pieces
 abbrev pub line : List (List ℕ) → List ℕ

@@ -19,6 +19,8 @@ pub enum Decision {
     Refused(Outcome),
     /// The run is over.
     Ran(Over),
+    /// The whole output was made without a run.
+    Made(Vec<u8>),
 }
 
 impl Over {
@@ -62,13 +64,14 @@ impl Decision {
     ghost use Rattle.std.specs.Prelude.{◌≡◌};
     ghost use Rattle.osc_top.specs.Deciding.{due_in};
 
-    /// The guest's output, which is none where nothing was run and where the run is not over.
+    /// What is written to out: nothing where the call is refused and where a run is not over.
     pub fn output(&self) -> &[u8]
         ensures { result.now ≡ (due_in self.now).output }
     {
         match self {
             Decision::Refused(_) => &[],
             Decision::Ran(over) => over.output(),
+            Decision::Made(output) => output.as_slice(),
         }
     }
 
@@ -79,6 +82,7 @@ impl Decision {
         match self {
             Decision::Refused(outcome) => *outcome,
             Decision::Ran(over) => over.outcome(),
+            Decision::Made(_) => Outcome::Done,
         }
     }
 }

@@ -111,10 +111,11 @@ fn write_text<K: Sink>(sink: &mut K, decision: &Decision) -> Result<(), Failed>
     match decision {
         Decision::Refused(outcome) => write_refusal(sink, *outcome),
         Decision::Ran(over) => write_over(sink, over),
+        Decision::Made(_) => Ok(()),
     }
 }
 
-/// Writes a guest's output to `out`, then the text to `err`. `Failed` comes only where one of them failed.
+/// Writes the output to `out`, then the text to `err`. `Failed` comes only where one of them failed.
 /// Then the text has not begun unless `out` got all of the output.
 fn write_both<O: Sink, E: Sink>(decision: &Decision, out: &mut O, err: &mut E) -> Result<(), Failed>
     requires { IsSound decision.now }

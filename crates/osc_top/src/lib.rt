@@ -6,6 +6,7 @@ mod decision;
 mod delivery;
 mod lines;
 mod loading;
+mod making;
 mod outcome;
 mod top;
 

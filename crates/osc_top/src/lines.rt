@@ -7,6 +7,7 @@ ghost use Rattle.osc_top.specs.Due as due;
 ghost use Rattle.osc_top.specs.Texts as texts;
 
 use crate::outcome::Outcome;
+use osc_assemble::TextFault;
 use osc_cli::option_name;
 use osc_elf::{ImageFault, SegmentWhy};
 use osc_machine::Counts;
@@ -69,6 +70,34 @@ fn append_fault(fault: ImageFault, into: &mut LineBuf)
     }
 }
 
+/// Appends why a line of a text is refused.
+fn append_line_fault(line: u32, why: &[u8], into: &mut LineBuf)
+    requires room { length into.old ≤ 64 }
+    requires why { length why.now ≤ 8 }
+    ensures after { into.new ≡ into.old ++ concat (texts.line_fault line why.now) }
+    ensures length { length into.new ≤ length into.old + 64 }
+{
+    into.decimal(b"line ", u64::from(line));
+    into.text(why);
+}
+
+/// Appends why a text is not assembled.
+fn append_text_fault(fault: TextFault, into: &mut LineBuf)
+    requires { length into.old ≤ 64 }
+    ensures after { into.new ≡ into.old ++ concat (texts.text_fault fault) }
+    ensures length { length into.new ≤ length into.old + 64 }
+{
+    match fault {
+        TextFault::TooLong => into.text(b"too long"),
+        TextFault::Form { line } => append_line_fault(line, b" form", into),
+        TextFault::Bound { line } => append_line_fault(line, b" bound", into),
+        TextFault::Label { line } => append_line_fault(line, b" label", into),
+        TextFault::Far { line } => append_line_fault(line, b" far", into),
+        TextFault::FileTooLong => into.text(b"file too long"),
+        TextFault::Memory => into.text(b"no memory"),
+    }
+}
+
 /// Appends an option's name to the front of its line.
 fn append_option(place: u8, into: &mut LineBuf)
     requires { length into.old ≤ 64 }
@@ -99,7 +128,11 @@ fn append_refusal(outcome: Outcome, into: &mut LineBuf)
         Outcome::SourceFault => into.text(b"oscar: source fault"),
         Outcome::NoMemory => into.text(b"oscar: no memory"),
         Outcome::Spent { picks } => into.decimal(b"oscar: spent: picks ", picks),
-        Outcome::Fault | Outcome::Exit(_) => {}
+        Outcome::BadText(fault) => {
+            into.text(b"oscar: text: ");
+            append_text_fault(fault, into);
+        }
+        Outcome::Fault | Outcome::Exit(_) | Outcome::Done => {}
     }
 }
 

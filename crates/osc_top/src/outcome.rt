@@ -1,5 +1,6 @@
 //! How a call ends.
 
+use osc_assemble::TextFault;
 use osc_elf::ImageFault;
 use osc_outside::Failed;
 use osc_word::OptionNo;
@@ -30,6 +31,10 @@ pub enum Outcome {
     Fault,
     /// Process 0 ended with this status, 0 to 63.
     Exit(u8),
+    /// The text is not assembled.
+    BadText(TextFault),
+    /// A text was assembled, or an image listed.
+    Done,
 }
 
 impl Outcome {
@@ -48,6 +53,8 @@ impl Outcome {
             Outcome::Spent { .. } => 69,
             Outcome::Fault => 70,
             Outcome::Exit(status) => *status,
+            Outcome::BadText(_) => 72,
+            Outcome::Done => 0,
         }
     }
 }

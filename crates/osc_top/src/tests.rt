@@ -10,4 +10,5 @@ mod outside;
 mod processes;
 mod runs;
 mod support;
+mod texts;
 mod words;

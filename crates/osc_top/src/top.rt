@@ -11,7 +11,8 @@ ghost use Rattle.osc_machine.specs.Run.{run};
 ghost use Rattle.osc_cli.specs.Words.{asked, IsReady};
 ghost use Rattle.osc_top.specs.Due.{due_of, image_due, run_due, HasGuestStatus};
 ghost use Rattle.osc_top.specs.Answer.{Answers, Quiet, TaskAnswers, TaskDecided};
-ghost use Rattle.osc_top.specs.Deciding.{due_in, words_outcome, ComesTo, Decides, IsSound, Obtains};
+ghost use Rattle.osc_top.specs.Deciding.{due_in, words_outcome, ComesTo, Decides, DecidesFor, IsSound, Obtains};
+ghost use Rattle.osc_top.specs.Making.{IsDue};
 ghost use Rattle.osc_top.specs.Loading.{IsQuietRead};
 ghost use Rattle.osc_top.specs.Safety.{RunsSafely};
 ghost use Rattle.osc_cli.specs.declared.task.Task.{Task};
@@ -20,6 +21,7 @@ ghost use Rattle.osc_top.specs.declared.outcome.Outcome.TheVariants.{SourceFault
 use crate::decision::{Decision, Over};
 use crate::delivery::deliver;
 use crate::loading::load;
+use crate::making::{assembled, listed};
 use crate::outcome::{Outcome, Refusal, Status};
 use osc_cli::{Mode, Task, WordsFault, read_words};
 use osc_core::laws::{ends_fit, starts_sound};
@@ -89,11 +91,23 @@ fn obtain<S: Source>(alloc: Global, task: &Task, source: &mut S) -> Result<Vec<u
 {
     match task.mode {
         Mode::Gen => Ok(guest_of(alloc, task.number)?),
-        Mode::Run | Mode::Seed | Mode::Object => load(alloc, source),
+        Mode::Run | Mode::Seed | Mode::Object | Mode::Asm | Mode::Disasm => load(alloc, source),
     }
 }
 
-/// Runs the file of a task.
+/// Does with a file what the mode says.
+fn use_file(alloc: Global, task: &Task, file: &[u8]) -> Result<Decision, AllocError>
+    requires config { first_fault task.now.config ≡ None }
+    ensures { IfOk result (λ d. DecidesFor d (IsDue task.now file.now)) }
+{
+    match task.mode {
+        Mode::Asm => assembled(alloc, file),
+        Mode::Disasm => listed(alloc, task, file),
+        Mode::Run | Mode::Seed | Mode::Object | Mode::Gen => run_file(alloc, task, file),
+    }
+}
+
+/// Does a task with its file.
 fn run_task<S: Source>(alloc: Global, task: &Task, source: &mut S) -> Result<Decision, Refusal>
     requires config { first_fault task.now.config ≡ None }
     ensures later { S.faults source.old ≤ S.faults source.new }
@@ -101,7 +115,7 @@ fn run_task<S: Source>(alloc: Global, task: &Task, source: &mut S) -> Result<Dec
     ensures comes { ComesTo task.now (S.left source.old) (S.left source.new) (Rose (S.faults source.old) (S.faults source.new)) result }
 {
     let file = obtain(alloc, task, source)?;
-    let decision = run_file(alloc, task, &file)?;
+    let decision = use_file(alloc, task, &file)?;
     Ok(decision)
 }
 
@@ -128,15 +142,20 @@ fn decide<S: Source>(alloc: Global, task: &Task, source: &mut S) -> Decision
 /// over after the picks, it writes nothing to `out` and one line to `err` that says why. It waits for nobody
 /// and always returns.
 ///
+/// The modes asm and disasm run nothing: they write to `out` the file of the source's text, or the listing
+/// of the source's image, and nothing to `err`. Of an image's frames they count its pages alone.
+///
 /// | Status | Comes |
 /// |---|---|
 /// | 0 to 63 | exactly where the machine is over and process 0 ended with it |
+/// | 0 | in modes asm and disasm where the text was assembled, or the image listed |
 /// | 65 | exactly where the file is no image, with its first fault, or needs more frames than there are, with both numbers |
 /// | 66 | only where the source failed, and never in mode gen; nothing is run |
 /// | 67 | only where `out` or `err` failed; where `out` did not, it has all of the output; it comes before every other status |
-/// | 68 | where memory ran out before the first step |
+/// | 68 | where memory ran out before the first step, and in modes asm and disasm at any moment |
 /// | 69 | exactly where the machine is not over after the picks |
 /// | 70 | exactly where the machine is over and process 0 ended by a fault |
+/// | 72 | in mode asm, exactly where the text has no file, with its first fault |
 ///
 /// The source is read to its end, or to 16 MiB and one byte; in mode gen it is not read. With another status
 /// than 66 and 67 no call of source or sinks failed: none is tried again. On the heap with shadows the run is

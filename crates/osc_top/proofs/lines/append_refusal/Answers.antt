@@ -22,3 +22,7 @@ returns-in-NoMemory-clause-after c = rw (c.text-in-NoMemory.ensures.after, c.in-
 pub returns-in-Spent-clause-after : goal.returns-in-Spent-clause-after
 returns-in-Spent-clause-after c =
     rw (c.decimal-in-Spent.ensures.after, c.in-Spent.is) (all_appended c.args.into.now (refusal_text (Spent c.in-Spent.picks)))
+
+pub returns-in-BadText-clause-after : goal.returns-in-BadText-clause-after
+returns-in-BadText-clause-after c =
+    rw (c.append_text_fault.ensures.after, c.text-in-BadText.ensures.after, c.in-BadText.is) (append_assoc c.args.into.now _ _)
