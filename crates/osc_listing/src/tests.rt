@@ -19,7 +19,8 @@ fn file_of(alloc: Global, entry: u64, parts: &[Part], bytes: &[u8]) -> Result<Ve
     push_long(&mut file, entry)?;
     push_long(&mut file, 64)?;
     push_long(&mut file, 0)?;
-    file.extend_from_slice(&[0, 0, 0, 0, 64, 0, 56, 0, parts.len() as u8, 0])?;
+    let count = (parts.len() as u64).to_le_bytes();
+    file.extend_from_slice(&[0, 0, 0, 0, 64, 0, 56, 0, count[0], count[1]])?;
     file.resize(64, 0)?;
     for (flags, address, place, size) in parts {
         file.extend_from_slice(&[1, 0, 0, 0, *flags, 0, 0, 0])?;
