@@ -2,4 +2,4 @@ use Rattle.osc_top.proofs.Safety.{runs-safely}
 use Rattle.osc_top.proofs.top.oscar_seeded.Goals as goal
 
 pub returns-clause-safe : goal.returns-clause-safe
-returns-clause-safe g c = runs-safely _ _ _
+returns-clause-safe g c = runs-safely c.args.task.now _ _
