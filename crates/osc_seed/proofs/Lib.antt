@@ -1,1 +1,1 @@
-mod Picking
+pub mod Picking

@@ -25,7 +25,7 @@ state_in over = state_of over.machine over.harts.items
 -- what a decision is due
 abbrev pub due_in : Decision → Due
 due_in (Refused outcome) = refused outcome
-due_in (Ran over) = over_due over.picks (state_in over)
+due_in (Ran over) = over_due over.picks (state_in over) over.verdict
 
 -- a run that is over is one of a machine that is sound
 abbrev pub IsSound : Decision → Type 0

@@ -8,6 +8,8 @@ use Rattle.osc_image.specs.declared.ImageFault.TheVariants.{TooLong, Truncated, 
 use Rattle.osc_image.specs.declared.SegmentWhy.{SegmentWhy}
 use Rattle.osc_image.specs.declared.SegmentWhy.TheVariants.{TableEnd, Dynamic, Interpreter, ThreadStorage, Sizes, FileEnd, Range}
 use Rattle.osc_machine.specs.Due.{ended_line}
+use Rattle.osc_world.specs.declared.ObjectWhy.{ObjectWhy}
+use Rattle.osc_world.specs.declared.ObjectWhy.TheVariants as object
 
 abbrev pub why_text : SegmentWhy → List ℕ
 why_text TableEnd = codes "table end"
@@ -36,6 +38,17 @@ fault_text (Segment index why) = segment_text index why
 fault_text (WriteExec page) = codes "write and execute at 0x" ∷ digits 16 false page ∷ codes "000" ∷ []
 fault_text (Entry address) = codes "entry 0x" ∷ digits 16 false address ∷ []
 fault_text Memory = codes "no memory" ∷ []
+
+-- why an event has no meaning in terms of objects
+abbrev pub object_text : ObjectWhy → List ℕ
+object_text object.Trap = codes "trap"
+object_text object.PointerUse = codes "pointer use"
+object_text object.DeadObject = codes "dead object"
+object_text object.Outside = codes "outside"
+object_text object.PointerBytes = codes "pointer bytes"
+object_text object.PointerShared = codes "pointer in shared region"
+object_text object.BadFree = codes "bad free"
+object_text object.BadCall = codes "bad call"
 
 -- the line of its pieces
 abbrev pub line : List (List ℕ) → List ℕ
