@@ -1,6 +1,6 @@
 -- What is due for a task and a file: how the call ends, with which status, the guest's output, and the text
 -- for err. This project's own.
-use Rattle.std.specs.Prelude.{ℕ, ◌<◌, nat_lt, Bool, true, false, if◌then◌else◌, List, [], ◌∷◌, ◌++◌, length, codes, Option, Some, None, Result, Ok, Err}
+use Rattle.std.specs.Prelude.{ℕ, ◌<◌, nat_lt, if◌then◌else◌, List, [], ◌∷◌, ◌++◌, length, codes, Option, Some, None, Result, Ok, Err}
 use Rattle.std.specs.Fmt.{decimal}
 use Rattle.osc_image.specs.declared.ImageFault.{ImageFault}
 use Rattle.osc_image.specs.Image.{Image}
@@ -14,6 +14,7 @@ use Rattle.osc_machine.specs.Run.{run}
 use Rattle.osc_machine.specs.Views.{counts_of, ending_of, machine_over, output_of, reports_of}
 use Rattle.osc_machine.specs.Due.{report_lines, summary_line}
 use Rattle.osc_seed.specs.Seeded.{picks_made}
+use Rattle.std.specs.Prelude.{Bool, true, false}
 use Rattle.osc_word.specs.declared.settings.Config.{Config}
 use Rattle.osc_word.specs.declared.steps.Event.{Event}
 use Rattle.osc_world.specs.Run.{object_run_of}
@@ -25,9 +26,10 @@ use Rattle.osc_cli.specs.declared.task.Task.{Task}
 use Rattle.osc_cli.specs.Command.{name_at}
 use Rattle.osc_top.specs.declared.outcome.Outcome.{Outcome}
 use Rattle.osc_top.specs.declared.outcome.Outcome.TheVariants.{UnknownWords, BadOption, BadImage, NoRoom, SourceFault, NoMemory, Spent, Fault, Exit}
+use Rattle.osc_top.specs.Texts.{object_text}
 use Rattle.osc_top.specs.declared.outcome.Verdict.{Verdict}
 use Rattle.osc_top.specs.declared.outcome.Verdict.TheVariants as verdict
-use Rattle.osc_top.specs.Texts.{fault_text, line, object_text}
+use Rattle.osc_top.specs.Texts.{fault_text, line}
 
 -- the exit status of the program
 abbrev pub status_of : Outcome → ℕ

@@ -117,8 +117,13 @@ fn run_image(alloc: Global, task: &Task, image: &Image) -> Result<Decision, Allo
     starts_sound();
     ends_fit();
     match Machine::boot(alloc, image, &task.config) {
-        Ok(booted) if is_judged(task.mode) => judge_booted(alloc, task, image, booted),
-        Ok(booted) => Ok(run_booted(task, booted)),
+        Ok(booted) => {
+            if is_judged(task.mode) {
+                judge_booted(alloc, task, image, booted)
+            } else {
+                Ok(run_booted(task, booted))
+            }
+        }
         Err(BootFault::NoRoom { needed, frames }) => {
             Ok(Decision::Refused(Outcome::NoRoom { needed, frames }))
         }
