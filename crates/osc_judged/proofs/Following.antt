@@ -1,5 +1,5 @@
 -- One pick after another, and the events that commit with them.
-use Rattle.std.proofs.Common.{subst, ℕ, ◌≡◌, ◌+◌, ◌-◌, ◌<◌, ◌≤◌, true, false, List, [], ◌∷◌, ◌++◌, length, take, arith, refl, sym, ap, ◌∙◌, Some, None, append_assoc, length-append}
+use Rattle.std.proofs.Common.{subst, ℕ, ◌≡◌, ◌+◌, ◌-◌, ◌<◌, ◌≤◌, Bool, true, false, List, [], ◌∷◌, ◌++◌, length, take, arith, refl, sym, ap, ◌∙◌, Some, None, append_assoc, length-append}
 use Rattle.std.proofs.lemmas.List.{append-nil}
 use Rattle.std.proofs.Math.Seq.{take-append_seam}
 use Rattle.std.specs.declared.option.Option.{Option}
@@ -9,11 +9,12 @@ use Rattle.osc_machine.specs.Parts.{State}
 use Rattle.osc_machine.specs.Step.{step}
 use Rattle.osc_machine.specs.Picks.{next_seed, picked}
 use Rattle.osc_machine.specs.Views.{machine_over}
-use Rattle.osc_machine.specs.Run.{Ran, with_step, run_on, run, at}
+use Rattle.osc_machine.specs.Run.{Ran, with_step, run_on, run}
 use Rattle.osc_machine.proofs.RunLaws.{runs_join}
 use Rattle.osc_world.specs.Run.{ObjectRun, object_run}
 use Rattle.osc_world.proofs.Folds.{object_run-append}
 use Rattle.osc_seed.proofs.Picking.{rest, over_now, one_more, none_left, left_more}
+use Rattle.osc_seed.specs.Seeded.{end_after}
 use Rattle.osc_judge.specs.Judging.{judged_by}
 use Rattle.osc_judged.specs.Judged.{judged_over, Stops}
 
@@ -77,6 +78,7 @@ follows_on start whole left s next x made is f = record {
 pub goes_on : (start : State) (whole left : List ℕ) (s next : State) (x made : ℕ) (first now after : Option ObjectRun) → next ≡ (step s x).state
     → after ≡ judged_over (option_to_list (step s x).event) now
     → Judges start whole (x ∷ left) s made first now → Judges start whole left next (made + 1) first after
+unfolding follows_on
 goes_on start whole left s next x made first now after is given j = record {
   follows = follows_on start whole left s next x made is j.follows;
   world =
@@ -158,3 +160,6 @@ pub finished_spent : (start : State) (whole : List ℕ) (harts now all made : �
 finished_spent start whole harts now all made s first world l j =
     let none : all - made ≡ 0 = omega (arith, l) in
     finished start whole (rest harts now (all - made) s) s made first world (ap (λ n. rest harts now n s) none ∙ none_left harts now s) j
+
+pub ends_as : (found over : Bool) (picks made : ℕ) → found ≡ over → picks ≡ made → end_after found picks ≡ end_after over made
+ends_as found over picks made is are = rw (is, are) refl
