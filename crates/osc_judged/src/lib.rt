@@ -4,7 +4,6 @@
 mod judged;
 
 pub use judged::run_judged;
-
 use osc_judge::JudgedError;
 use osc_seed::SeededEnd;
 

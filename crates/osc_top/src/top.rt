@@ -1,6 +1,6 @@
 //! The top call.
 
-ghost use Rattle.std.specs.Prelude.{ℕ, ◌≡◌, ◌≢◌, ◌≤◌, ◌<◌, List, length, map, IfOk, None, Ok};
+ghost use Rattle.std.specs.Prelude.{ℕ, ◌≡◌, ◌≢◌, ◌≤◌, ◌<◌, true, false, List, length, map, IfOk, None, Ok};
 ghost use Rattle.osc_outside.specs.Faults.{Rose};
 ghost use Rattle.osc_word.specs.Limits.{first_fault};
 ghost use Rattle.osc_core.specs.Boot.{IsOfFile};
