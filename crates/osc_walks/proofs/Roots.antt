@@ -6,7 +6,10 @@ use Rattle.osc_word.specs.declared.calls.Call.{Call}
 use Rattle.osc_word.specs.declared.calls.Call.TheVariants as calls
 use Rattle.osc_word.specs.declared.calls.Request.{Request}
 use Rattle.osc_word.specs.declared.job_list.Job.{Job}
+use Rattle.osc_word.specs.declared.settings.Config.{Config}
 use Rattle.osc_word.specs.declared.settings.HeapKind.TheVariants.{Oscar}
+use Rattle.osc_word.specs.declared.steps.Label.{Label}
+use Rattle.osc_image.specs.Image.{Image}
 use Rattle.osc_paging.specs.KeptTables.{root_of}
 use Rattle.osc_paging.proofs.TableLists.{apart-found}
 use Rattle.osc_space.specs.Header.{Found}
@@ -31,7 +34,7 @@ use Rattle.osc_settled.proofs.Lists.{get-put_same}
 use Rattle.osc_settled.proofs.Outcomes.{Asks, asks, caller_lives}
 use Rattle.osc_settled.proofs.Answering.{settled, has_terms}
 use Rattle.osc_settled.proofs.Beginning.{at_rest, asks_as}
-use Rattle.osc_safe.specs.KernelSteps.{Kept, Begins, Plans, EndsJob, Finishes}
+use Rattle.osc_safe.specs.KernelSteps.{KernelStep, Kept, Begins, Plans, EndsJob, Finishes}
 use Rattle.osc_safe.proofs.CallSteps.{finished-home}
 use Rattle.osc_records.proofs.Tops.{HasTop, malloc_by-top, free_of-top, realloc_by-top}
 use Rattle.osc_showing.specs.Showing.{closes, is_closed}
@@ -40,7 +43,9 @@ use Rattle.osc_showing.proofs.Folds.{some-is}
 use Rattle.osc_showing.proofs.Plans.{unchanged-turns, malloc-turns, free-turns}
 use Rattle.osc_showing.proofs.ReallocPlans.{realloc-turns}
 use Rattle.osc_caches.specs.HeapShows.{is_heap_call}
-use Rattle.osc_walks.specs.Roots.{RootsOpen, StepsKeepRoots, StartRootsOpen}
+use Rattle.osc_blocks.proofs.ConfigSteps.{steps_keep_config}
+use Rattle.osc_blocks.proofs.Runs.{runs-keep}
+use Rattle.osc_walks.specs.Roots.{RootsOpen, StepsKeepRoots, StartRootsOpen, RunsKeepRoots}
 
 -- ---- the plan
 pub some-of : {A : Type 0} (o : Option A) → is_some o ≡ true → (x : A) × (o ≡ Some x)
@@ -194,3 +199,24 @@ steps_keep_roots old new shows fits oscar (Finishes n e f) all =
 pub start_roots_open : StartRootsOpen
 unfolding open_kernel
 start_roots_open image config = no-call (open_kernel image config) Quiet refl (λ done r. (let b : ⊥ = grind (arith, r) in b))
+
+-- ---- runs
+-- on the heap with shadows
+record OnOscar (k : KernelState) : Type 0 where
+  heap : k.config.heap ≡ Oscar
+  roots : RootsOpen k
+
+keeps-open : (words : List ℕ) (old new : KernelState) (shows : List Label) → KernelFits words old → KernelStep old new shows → OnOscar old → OnOscar new
+keeps-open words old new shows fits goes x = record {
+  heap = ap (λ (z : Config). z.heap) (steps_keep_config old new shows goes) ∙ x.heap;
+  roots = steps_keep_roots old new shows (record { words = words; fits = fits }) x.heap goes x.roots;
+}
+
+opens-with : (image : Image) (config : Config) → (open_kernel image config).config ≡ config
+unfolding open_kernel
+opens-with image config = refl
+
+pub runs_keep_roots : RunsKeepRoots
+runs_keep_roots file image config picks k fit is_image room heap has =
+    (runs-keep OnOscar keeps-open file image config picks k fit is_image room
+    (record { heap = ap (λ (z : Config). z.heap) (opens-with image config) ∙ heap; roots = start_roots_open image config }) has).roots
