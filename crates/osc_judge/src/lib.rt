@@ -8,3 +8,6 @@ mod judging;
 
 pub use judging::{Judged, JudgedError, World};
 pub use osc_world::ObjectWhy;
+
+#[cfg(test)]
+mod tests;

@@ -1,2 +1,2 @@
-mod Picking
 pub mod Safety
+pub mod Picking

@@ -28,17 +28,17 @@ nothing s = refl
 abbrev pub rest : ℕ → ℕ → ℕ → State → List ℕ
 rest harts seed left s = until_over s (picks harts seed left)
 
-over_now : (harts seed left : ℕ) (s : State) → machine_over s ≡ true → rest harts seed left s ≡ []
+pub over_now : (harts seed left : ℕ) (s : State) → machine_over s ≡ true → rest harts seed left s ≡ []
 unfolding until_over picks
 over_now harts seed zero s e = refl
 over_now harts seed (suc left) s e = rw e refl
 
-one_more : (harts seed left : ℕ) (s : State) → machine_over s ≡ false
+pub one_more : (harts seed left : ℕ) (s : State) → machine_over s ≡ false
     → rest harts seed (suc left) s ≡ picked harts (next_seed seed) ∷ rest harts (next_seed seed) left (step s (picked harts (next_seed seed))).state
 unfolding until_over picks
 one_more harts seed left s e = rw e refl
 
-none_left : (harts seed : ℕ) (s : State) → rest harts seed 0 s ≡ []
+pub none_left : (harts seed : ℕ) (s : State) → rest harts seed 0 s ≡ []
 unfolding until_over picks
 none_left harts seed s = refl
 
@@ -55,7 +55,7 @@ starts start harts seed all =
       count = ap (λ n. 0 + length (rest harts seed n start)) whole ∙ omega arith;
     }
 
-left_more : (all made : ℕ) → made < all → all - made ≡ suc (all - (made + 1))
+pub left_more : (all made : ℕ) → made < all → all - made ≡ suc (all - (made + 1))
 left_more all made l = omega (arith, l)
 
 pub goes_on : (start : State) (harts seed all : ℕ) (s next : State) (now made : ℕ) → made < all → machine_over s ≡ false

@@ -2,7 +2,7 @@
 #![tactic(auto)]
 
 pub mod laws;
-mod picks;
+pub mod picks;
 mod seeded;
 
 pub use seeded::run_seeded;
