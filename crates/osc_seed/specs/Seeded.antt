@@ -11,6 +11,7 @@ use Rattle.osc_machine.specs.Views.{machine_over}
 use Rattle.osc_machine.specs.Picks.{picks}
 use Rattle.osc_machine.specs.Run.{run, until_over}
 use Rattle.osc_machine.specs.Safe.{Safe}
+use Rattle.osc_machine.specs.Agreements.{ReplayAgrees}
 use Rattle.osc_machine.specs.Start.{start_of}
 use Rattle.osc_seed.specs.declared.SeededEnd.{SeededEnd}
 use Rattle.osc_seed.specs.declared.SeededEnd.TheVariants.{Over, Spent}
@@ -38,3 +39,11 @@ SafeFromStart s made =
     (file : List ℕ) (image : Image) (config : Config)
     → first_fault config ≡ None → image_of file ≡ Ok image → needed_frames config.levels image ≤ config.frames → config.heap ≡ Oscar
     → s ≡ start_of image config → Safe s made
+
+-- under both heaps the journal of such a run tells, at its end, the objects, those that wait and the held blocks
+-- of each process, if no hart holds the kernel then
+abbrev pub ToldFromStart : State → List ℕ → Type 0
+ToldFromStart s made =
+    (file : List ℕ) (image : Image) (config : Config)
+    → first_fault config ≡ None → image_of file ≡ Ok image → needed_frames config.levels image ≤ config.frames
+    → s ≡ start_of image config → ReplayAgrees config (run s made).state

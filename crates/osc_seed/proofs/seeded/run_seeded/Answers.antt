@@ -4,6 +4,7 @@ use Rattle.osc_machine.specs.Step.{step}
 use Rattle.osc_core.specs.Shared.{Seen, state_of}
 use Rattle.osc_seed.proofs.Picking.{starts, goes_on, stops_over, stops_spent, over_after}
 use Rattle.osc_seed.proofs.Safety.{safe-from-start}
+use Rattle.osc_seed.proofs.Journal.{told-from-start}
 use Rattle.osc_seed.proofs.seeded.run_seeded.Goals as goal
 
 pub loop-made-init : goal.loop-made-init
@@ -52,3 +53,12 @@ returns-then-over-2-clause-safe c = safe-from-start _ _
 
 pub returns-else-over-2-clause-safe : goal.returns-else-over-2-clause-safe
 returns-else-over-2-clause-safe c = safe-from-start _ _
+
+pub returns-then-over-clause-journal : goal.returns-then-over-clause-journal
+returns-then-over-clause-journal c = told-from-start _ _
+
+pub returns-then-over-2-clause-journal : goal.returns-then-over-2-clause-journal
+returns-then-over-2-clause-journal c = told-from-start _ _
+
+pub returns-else-over-2-clause-journal : goal.returns-else-over-2-clause-journal
+returns-else-over-2-clause-journal c = told-from-start _ _
