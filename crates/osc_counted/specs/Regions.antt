@@ -53,6 +53,7 @@ regions_told k pid = (ledger_at (replay k.config k.journal) pid).regions
 -- is under way.
 pub record RegionsTold (k : KernelState) : Type 0 where
   pub givers : Givers
+  pub past : (frame call : ℕ) → givers frame ≡ Some call → call < length k.journal
   pub given : (pid : ℕ) (p : Process) → process_at k pid ≡ Some p → p.status ≡ None
       → AreGiven givers (length k.journal) k.config.frames (regions_told k pid)
   pub maps : (pid frame : ℕ) (p : Process) → process_at k pid ≡ Some p → p.status ≡ None
