@@ -23,3 +23,4 @@ pub mod Booting
 pub mod Spread
 pub mod Opened
 pub mod Moving
+pub mod Told

@@ -5,3 +5,4 @@ pub mod Ends
 pub mod Words
 pub mod Boot
 pub mod Parts
+pub mod Told

@@ -134,6 +134,8 @@ fn open_kernel(
 impl Machine {
     ghost use Rattle.std.specs.Prelude.{IfErr, IfOk};
     ghost use Rattle.osc_core.specs.Boot.{Begins, IsOfFile, Refuses};
+    ghost use Rattle.osc_core.specs.Shared.{state_of};
+    ghost use Rattle.osc_core.specs.Told.{JournalTells};
 
     /// The machine of a configuration before its first step, with the image of a file: process 0 has the
     /// image's pages and its stack, hart 0 runs at the entry, and every other hart is idle. All memory of a
@@ -142,6 +144,7 @@ impl Machine {
     pub fn boot(alloc: Global, image: &Image, config: &Config) -> Result<Booted, BootFault>
         requires image { IsOfFile image.now }
         ensures begins { IfOk result (Begins image.now config.now) }
+        ensures journal { IfOk result (λ booted. JournalTells config.now (state_of booted.machine booted.harts.items)) }
         ensures refuses { IfErr result (Refuses image.now config.now) }
     {
         if let Err(fault) = config.check() {

@@ -45,6 +45,8 @@ impl Machine {
     ghost use Rattle.osc_core.specs.Shared.{state_of, seen, shown};
     ghost use Rattle.osc_machine.specs.Views.{freed_in};
     ghost use Rattle.osc_core.specs.Sound.{Sound};
+    ghost use Rattle.osc_core.specs.Told.{Reached, JournalTells};
+    ghost use Rattle.osc_word.specs.declared.settings.Config.{Config};
     ghost use Rattle.osc_machine.specs.Parts.{HartState};
     ghost use Rattle.osc_machine.specs.Step.{acted, step};
     ghost use Rattle.osc_machine.specs.Turns.{guest_ask, hart_ask};
@@ -174,6 +176,7 @@ impl Machine {
     /// A step of one of its harts: it does the hart's next action and tells the hart what came of it. It
     /// answers the event that commits with the step and what the step shows beside objects that were let go,
     /// which the kernel tells that came home; where the thing that the hart wants is taken, and where the hart is at rest, nothing changes.
+    /// In a run from the start the journal then tells what the kernel keeps of each process.
     #[inline(always)]
     pub fn step(&mut self, harts: &mut [Hart], hart: usize) -> Stepped
         requires hart { hart < length harts.old }
@@ -182,6 +185,7 @@ impl Machine {
         ensures freed { (h : HartState) → slice_get harts.old hart ≡ Some h
             → freed_in (step (state_of self.old harts.old) hart).shows ≡ freed_home (hart_ask h) self.new.kernel }
         ensures sound { Sound (state_of self.new harts.new) }
+        ensures journal { (config : Config) → Reached config (state_of self.old harts.old) → JournalTells config (state_of self.new harts.new) }
     {
         steps_keep();
         steps_free();

@@ -3,3 +3,4 @@ pub mod Files
 pub mod Pieces
 pub mod Runs
 pub mod Safety
+pub mod Told

@@ -5,3 +5,4 @@ pub mod Loading
 pub mod Answer
 pub mod Deciding
 pub mod Safety
+pub mod Told

@@ -1,5 +1,9 @@
 use Rattle.osc_top.proofs.Safety.{runs-safely}
+use Rattle.osc_top.proofs.Told.{runs-told}
 use Rattle.osc_top.proofs.top.oscar.Goals as goal
 
 pub returns-in-Err-clause-safe : goal.returns-in-Err-clause-safe
 returns-in-Err-clause-safe g c = λ task asks. runs-safely task _ _
+
+pub returns-in-Err-clause-journal : goal.returns-in-Err-clause-journal
+returns-in-Err-clause-journal g c = λ task asks. runs-told task _ _

@@ -7,6 +7,7 @@ use Rattle.osc_word.specs.Limits.{first_fault}
 use Rattle.osc_machine.specs.Start.{first_hart}
 use Rattle.osc_core.specs.Boot.{start_at}
 use Rattle.osc_core.proofs.Booting.{root_is, root_below, starts}
+use Rattle.osc_core.proofs.Told.{tells-at-start}
 use Rattle.osc_core.proofs.machine.Machine.boot.Goals as goal
 
 pub new_harts-requires : goal.new_harts-requires
@@ -32,3 +33,8 @@ returns-clause-begins c =
           (let g : c.in_ok-vec.field-0.items ≡ replicate config.frames 0 = search rules in g) c.in_ok-new.ensures (c.unwrap_or-root.ensures ∙ ap (λ o. unwrap_or o 0) c.root.ensures ∙ root_is image config k e)
           (c.in_ok-harts.ensures ∙ ap (λ s. map (first_hart config s) (range_with_len 0 config.harts)) (c.first_start.ensures ∙ ap (start_at config at) c.entry.ensures));
     }
+
+pub returns-clause-journal : goal.returns-clause-journal
+returns-clause-journal c =
+    let begun = returns-clause-begins c in
+    tells-at-start c.args.image.now c.args.config.now _ c.requires.image begun.valid begun.enough begun.starts
