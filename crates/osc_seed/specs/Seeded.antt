@@ -12,6 +12,7 @@ use Rattle.osc_machine.specs.Picks.{picks}
 use Rattle.osc_machine.specs.Run.{run, until_over}
 use Rattle.osc_machine.specs.Safe.{Safe}
 use Rattle.osc_machine.specs.Agreements.{ReplayAgrees}
+use Rattle.osc_machine.specs.Refusals.{setting_of, RefusesByRule}
 use Rattle.osc_machine.specs.Start.{start_of}
 use Rattle.osc_seed.specs.declared.SeededEnd.{SeededEnd}
 use Rattle.osc_seed.specs.declared.SeededEnd.TheVariants.{Over, Spent}
@@ -47,3 +48,11 @@ ToldFromStart s made =
     (file : List ℕ) (image : Image) (config : Config)
     → first_fault config ≡ None → image_of file ≡ Ok image → needed_frames config.levels image ≤ config.frames
     → s ≡ start_of image config → ReplayAgrees config (run s made).state
+
+-- and each call that wants memory, a hart, a process or a thread is refused in such a run exactly where the rule of
+-- refusals says so by the journal before it
+abbrev pub RefusedFromStart : State → List ℕ → Type 0
+RefusedFromStart s made =
+    (file : List ℕ) (image : Image) (config : Config)
+    → first_fault config ≡ None → image_of file ≡ Ok image → needed_frames config.levels image ≤ config.frames
+    → s ≡ start_of image config → RefusesByRule (setting_of image config) s made

@@ -5,7 +5,7 @@ ghost use Rattle.osc_machine.specs.Run.{run};
 ghost use Rattle.osc_machine.specs.Views.{machine_over};
 ghost use Rattle.osc_core.specs.Shared.{state_of};
 ghost use Rattle.osc_core.specs.Sound.{Sound};
-ghost use Rattle.osc_seed.specs.Seeded.{picks_made, end_after, SafeFromStart, ToldFromStart};
+ghost use Rattle.osc_seed.specs.Seeded.{picks_made, end_after, SafeFromStart, ToldFromStart, RefusedFromStart};
 
 use crate::SeededEnd;
 use crate::picks::{next_seed, picked};
@@ -22,6 +22,7 @@ pub fn run_seeded(machine: &mut Machine, harts: &mut [Hart], seed: u64, picks: u
     ensures sound { Sound (state_of machine.new harts.new) }
     ensures safe { SafeFromStart (state_of machine.old harts.old) (picks_made (state_of machine.old harts.old) seed picks) }
     ensures journal { ToldFromStart (state_of machine.old harts.old) (picks_made (state_of machine.old harts.old) seed picks) }
+    ensures refusals { RefusedFromStart (state_of machine.old harts.old) (picks_made (state_of machine.old harts.old) seed picks) }
 {
     let mut seed = seed;
     for made in 0..picks {

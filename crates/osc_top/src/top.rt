@@ -15,7 +15,7 @@ ghost use Rattle.osc_top.specs.Deciding.{due_in, words_outcome, ComesTo, Decides
 ghost use Rattle.osc_top.specs.Making.{IsDue};
 ghost use Rattle.osc_top.specs.Loading.{IsQuietRead};
 ghost use Rattle.osc_top.specs.Safety.{RunsSafely};
-ghost use Rattle.osc_top.specs.Told.{RunsTold};
+ghost use Rattle.osc_top.specs.Told.{RunsTold, RunsRefused};
 ghost use Rattle.osc_cli.specs.declared.task.Task.{Task};
 ghost use Rattle.osc_top.specs.declared.outcome.Outcome.TheVariants.{SourceFault};
 
@@ -161,7 +161,8 @@ fn decide<S: Source>(alloc: Global, task: &Task, source: &mut S) -> Decision
 /// The source is read to its end, or to 16 MiB and one byte; in mode gen it is not read. With another status
 /// than 66 and 67 no call of source or sinks failed: none is tried again. On the heap with shadows the run is
 /// safe (clause `safe`): no access to a freed object's pages after its free returned is done. Under both heaps
-/// the journal tells, at the end of the run, what the kernel keeps of each process (clause `journal`).
+/// the journal tells, at the end of the run, what the kernel keeps of each process (clause `journal`), and memory
+/// is refused exactly for want of it, by the journal before each call (clause `refusals`).
 pub fn oscar_seeded<S: Source, O: Sink, E: Sink>(
     alloc: Global,
     task: &Task,
@@ -179,6 +180,7 @@ pub fn oscar_seeded<S: Source, O: Sink, E: Sink>(
         (E.faults err.old) (E.faults err.new) result.0 }
     ensures safe { RunsSafely task.now (S.left source.old) (S.left source.new) }
     ensures journal { RunsTold task.now (S.left source.old) (S.left source.new) }
+    ensures refusals { RunsRefused task.now (S.left source.old) (S.left source.new) }
 {
     let decision = decide(alloc, task, source);
     deliver(&decision, out, err)
@@ -217,6 +219,8 @@ pub fn oscar<S: Source, O: Sink, E: Sink>(
         → RunsSafely task (S.left source.old) (S.left source.new) }
     ensures journal { (task : Task) → asked (map (λ word. word.now) words.now) ≡ Ok task
         → RunsTold task (S.left source.old) (S.left source.new) }
+    ensures refusals { (task : Task) → asked (map (λ word. word.now) words.now) ≡ Ok task
+        → RunsRefused task (S.left source.old) (S.left source.new) }
 {
     match read_words(alloc, words) {
         Ok(task) => oscar_seeded(alloc, &task, source, out, err),

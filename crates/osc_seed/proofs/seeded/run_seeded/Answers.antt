@@ -4,7 +4,7 @@ use Rattle.osc_machine.specs.Step.{step}
 use Rattle.osc_core.specs.Shared.{Seen, state_of}
 use Rattle.osc_seed.proofs.Picking.{starts, goes_on, stops_over, stops_spent, over_after}
 use Rattle.osc_seed.proofs.Safety.{safe-from-start}
-use Rattle.osc_seed.proofs.Journal.{told-from-start}
+use Rattle.osc_seed.proofs.Journal.{told-from-start, refused-from-start}
 use Rattle.osc_seed.proofs.seeded.run_seeded.Goals as goal
 
 pub loop-made-init : goal.loop-made-init
@@ -62,3 +62,12 @@ returns-then-over-2-clause-journal c = told-from-start _ _
 
 pub returns-else-over-2-clause-journal : goal.returns-else-over-2-clause-journal
 returns-else-over-2-clause-journal c = told-from-start _ _
+
+pub returns-then-over-clause-refusals : goal.returns-then-over-clause-refusals
+returns-then-over-clause-refusals c = refused-from-start _ _
+
+pub returns-then-over-2-clause-refusals : goal.returns-then-over-2-clause-refusals
+returns-then-over-2-clause-refusals c = refused-from-start _ _
+
+pub returns-else-over-2-clause-refusals : goal.returns-else-over-2-clause-refusals
+returns-else-over-2-clause-refusals c = refused-from-start _ _
