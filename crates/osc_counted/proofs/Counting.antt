@@ -160,7 +160,8 @@ given-counted givers calls count (r ∷ rs) g =
     go : (b : Bool) → list_any (λ (other : Region). other.call == r.call) rs ≡ b → total (λ f. one_if (times (givers f) rs)) count ≡ region_frames rs
         → total (λ f. one_if (times (givers f) (r ∷ rs))) count ≡ cond b 0 r.pages + region_frames rs
     go true e later =
-        total-same (λ f. one_if (times (givers f) (r ∷ rs))) (λ f. one_if (times (givers f) rs)) count (λ f l. (let o = one-more (givers f) r rs true e in omega (arith, o))) ∙ later
+        let same = total-same (λ f. one_if (times (givers f) (r ∷ rs))) (λ f. one_if (times (givers f) rs)) count (λ f l. (let o = one-more (givers f) r rs true e in omega (arith, o))) in
+        omega (arith, same, later)
     go false e later =
         let split = total-same (λ f. one_if (times (givers f) (r ∷ rs))) (λ f. bit (is_giver r.call (givers f)) + one_if (times (givers f) rs)) count (λ f l. one-more (givers f) r rs false e) in
         let add = total-add (λ f. bit (is_giver r.call (givers f))) (λ f. one_if (times (givers f) rs)) count in
