@@ -5,3 +5,5 @@ pub mod Starts
 pub mod PlanRows
 pub mod Lifting
 pub mod ImageSteps
+pub mod FreshGivers
+pub mod RegionSteps
