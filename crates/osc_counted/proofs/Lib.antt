@@ -7,3 +7,5 @@ pub mod Lifting
 pub mod ImageSteps
 pub mod FreshGivers
 pub mod RegionSteps
+pub mod Privates
+pub mod Unused
