@@ -64,7 +64,7 @@ total-regions [] = refl
 total-regions (x ∷ regions) = let a = total-regions regions in let b = sum_by-cons one_if x regions in omega (arith, a, b)
 
 -- those that pass a test, counted one by one
-total-test : (test : ℕ → Bool) (n first : ℕ) → count_by test (range_with_len first n) ≡ total (λ i. bit (test (first + i))) n
+pub total-test : (test : ℕ → Bool) (n first : ℕ) → count_by test (range_with_len first n) ≡ total (λ i. bit (test (first + i))) n
 unfolding total
 total-test test zero first = refl
 total-test test (suc n) first =

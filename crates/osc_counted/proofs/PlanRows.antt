@@ -1,5 +1,5 @@
 -- What the plan of each call makes of all processes, and what its entry tells of regions.
-use Rattle.std.proofs.Common.{ℕ, ◌≡◌, ◌==◌, Bool, true, false, cond, Option, Some, None, List, [], ◌∷◌, ◌++◌, slice_set, arith, refl, sym, ap, subst, ◌∙◌}
+use Rattle.std.proofs.Common.{ℕ, ◌-◌, ◌≡◌, ◌==◌, nat_le, Bool, true, false, cond, Option, Some, None, is_none, List, [], ◌∷◌, ◌++◌, length, slice_set, arith, refl, sym, ap, subst, ◌∙◌}
 use Rattle.std.proofs.lemmas.Bool.Decides.{nat_tests}
 use Rattle.osc_word.specs.declared.settings.Config.{Config}
 use Rattle.osc_word.specs.declared.calls.Call.{Call}
@@ -14,7 +14,7 @@ use Rattle.osc_space.specs.declared.ObjectFact.{ObjectFact}
 use Rattle.osc_space.specs.Objects.{fact}
 use Rattle.osc_space.specs.Header.{Found, block_of}
 use Rattle.osc_space.specs.Space.{Space}
-use Rattle.osc_space.specs.Fork.{fork_plan}
+use Rattle.osc_space.specs.Fork.{fork_plan, fork_reasons}
 use Rattle.osc_space.specs.Share.{share_plan, share_address}
 use Rattle.osc_calls.specs.Kernel.{KernelState, Process, Calling, process_at, is_last, idle_hart}
 use Rattle.osc_calls.specs.Requests.{meant}
@@ -101,7 +101,7 @@ module _ (words : List ℕ) (k : KernelState) (c : Calling) (p : Process) (a : A
   fork-does : (r : Option Answer) → refusal_of calls.Fork p k ≡ r → Silent r → Does k c.pid p calls.Fork (planned_unless r k (fork_done c p k))
   fork-does (Some answer) e s = Leaves (refl, refl) refl s
   fork-does None e s =
-      let n = none_of _ _ answers.NoHart answers.NoProcess _ e in
+      let n = none_of (is_none (idle_hart k.records)) (nat_le k.config.processes (length k.processes)) answers.NoHart answers.NoProcess (fork_reasons p.space k.free) e in
       Forks _ (child_process c.pid (fork_plan p.space k.free).child) refl refl (refl, refl) refl (fork-frames words k c p a here n.2)
 
   spawn-does : (r : Option Answer) (pc sp arg : ℕ) → Does k c.pid p (calls.Spawn pc sp arg) (planned_unless r k (spawn_done c p pc sp arg k))
