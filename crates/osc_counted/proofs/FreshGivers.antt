@@ -58,9 +58,11 @@ module _ (givers : Givers) (xs : List ℕ) (n : ℕ) where
 
   pub fresh-given : (count : ℕ) (rs : List Region) → AreGiven givers n count rs → ((f : ℕ) → 0 < among f xs → times (givers f) rs ≡ 0) → AreGiven fresh (n + 1) count rs
   fresh-given count [] g h = tt
-  fresh-given count (r ∷ rs) g h =
-      ((let b = g.0 in omega (arith, b)), same-given count r rs g.0 h ∙ g.1,
-      fresh-given count rs g.2 (λ f l. (let c = times-cons (givers f) r rs in let z = h f l in omega (arith, c, z))))
+  fresh-given count (r ∷ rs) g h = (
+    (let b = g.0 in omega (arith, b)),
+    same-given count r rs g.0 h ∙ g.1,
+    fresh-given count rs g.2 (λ f l. (let c = times-cons (givers f) r rs in let z = h f l in omega (arith, c, z))),
+  )
 
   -- the new ones are as many as were taken
   pub fresh-own : (count : ℕ) → ((f call : ℕ) → givers f ≡ Some call → call < n) → ((f : ℕ) → among f xs ≤ 1) → ((f : ℕ) → 0 < among f xs → f < count) → given_frames fresh count n ≡ length xs

@@ -115,7 +115,7 @@ same-kept k m s h = told-from k m h s.config (same-journal k m s.journal) (λ pi
 
 returned : (k m : KernelState) (at : ℕ) (p new : Process) → process_at k at ≡ Some p → m.config ≡ k.config → m.journal ≡ k.journal → m.processes ≡ slice_set k.processes at new → Returned p new → RegionsTold k → RegionsTold m
 returned k m at p new here config journal e back h = told-from k m h config (same-journal k m journal) (λ pid q there lives.
-  either pid q lives (put-either k.processes at pid p new q here (ap (λ ps. slice_get ps pid) (sym e) ∙ there)))
+    either pid q lives (put-either k.processes at pid p new q here (ap (λ ps. slice_get ps pid) (sym e) ∙ there)))
   where
     either : (pid : ℕ) (q : Process) → q.status ≡ None → ((at ≡ pid) × (new ≡ q)) ⊎ ((at ≢ pid) × (slice_get k.processes pid ≡ Some q)) → From k m pid q
     either pid q lives (inl g) =
