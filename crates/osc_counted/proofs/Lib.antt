@@ -1,0 +1,11 @@
+pub mod ImagePlans
+pub mod PlanFrames
+pub mod Counting
+pub mod Starts
+pub mod PlanRows
+pub mod Lifting
+pub mod ImageSteps
+pub mod FreshGivers
+pub mod RegionSteps
+pub mod Privates
+pub mod Unused
