@@ -1,0 +1,5 @@
+pub mod Members
+pub mod Counted
+pub mod TableCounts
+pub mod PlainRows
+pub mod PlainKeeps
