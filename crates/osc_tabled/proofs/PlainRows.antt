@@ -1,5 +1,5 @@
 -- The tables after a malloc, a free and a realloc of the plain heap.
-use Rattle.std.proofs.Common.{ℕ, suc, ◌+◌, ◌*◌, ◌/◌, ◌≡◌, ◌≢◌, ◌<◌, ◌≤◌, ◌==◌, ◌&&◌, ◌||◌, nat_le, nat_lt, not, Bool, true, false, cond, Option, Some, None, is_some, option_map, List, [], ◌∷◌, ◌++◌, length, append_assoc, arith, refl, sym, ap, subst, ◌∙◌}
+use Rattle.std.proofs.Common.{ℕ, suc, ◌+◌, ◌-◌, ◌*◌, ◌/◌, ◌≡◌, ◌≢◌, ◌<◌, ◌≤◌, ◌==◌, ◌&&◌, ◌||◌, nat_le, nat_lt, not, Bool, true, false, cond, Option, Some, None, is_some, option_map, List, [], ◌∷◌, ◌++◌, length, append_assoc, arith, refl, sym, ap, subst, ◌∙◌}
 use Rattle.std.specs.List.{list_any, range_with_len}
 use Rattle.std.proofs.lemmas.Bool.Decides.{nat_tests}
 use Rattle.std.proofs.lemmas.List.Folds.{list_any-append}
@@ -37,6 +37,7 @@ use Rattle.osc_ledger.proofs.AddedTables.{Adds, pages-add, any-range, all-over}
 use Rattle.osc_ledger.proofs.HasTables.{HasTables, added, same-tests, same-tables, unmap-tables}
 use Rattle.osc_ledger.proofs.HeapTables.{ever-same}
 use Rattle.osc_ledger.proofs.HeapRows.{Has}
+use Rattle.osc_tabled.proofs.EverMapped.{ever-placed}
 
 -- ---- ledgers
 -- one that tells of the same pages and objects tells of the same tables
@@ -58,51 +59,20 @@ none-given objects waiting leaf e = ap (λ os. leaf_given_up os waiting leaf) e 
     no-leaf true false c d f = refl
     no-leaf false b c d f = refl
 
--- pages that stand among others
-pub any-inside : (test : ℕ → Bool) (a n e : List ℕ) → list_any test (a ++ (n ++ e)) ≡ (list_any test n || list_any test (a ++ e))
-any-inside test a n e =
-    list_any-append test a (n ++ e) ∙ ap (λ b. list_any test a || b) (list_any-append test n e)
-    ∙ swap (list_any test a) (list_any test n) (list_any test e) ∙ ap (λ b. list_any test n || b) (sym (list_any-append test a e))
-  where
-    swap : (x y z : Bool) → (x || (y || z)) ≡ (y || (x || z))
-    swap true true z = refl
-    swap true false z = refl
-    swap false true z = refl
-    swap false false z = refl
-
--- the pages of a block beside those that were mapped before
-ever-placed : (s : Setting) (l m : Ledger) (pages : List ℕ) → m.objects ≡ l.objects → m.regions ≡ l.regions → m.canonical ≡ pages ++ l.canonical → (level number : ℕ)
-    → has_piece level number (ever_mapped s m) ≡ (has_piece level number pages || has_piece level number (ever_mapped s l))
-ever-placed s l m pages objects regions canonical level number = more (λ page. piece (suc level) page == number)
-  where
-    more : (test : ℕ → Bool) → list_any test (ever_mapped s m) ≡ (list_any test pages || list_any test (ever_mapped s l))
-    more test =
-        let shadows = range_with_len first_shadow_page (mark l.objects) in
-        let shared = range_with_len first_shared_page (region_pages l.regions) in
-        let rest = stack_pages ++ s.image in
-        (λ i. list_any test (range_with_len first_shadow_page (mark (objects i)) ++ range_with_len first_shared_page (region_pages (regions i)) ++ canonical i ++ rest))
-        ∙ ap (λ xs. list_any test (shadows ++ shared ++ xs)) (append_assoc pages l.canonical rest)
-        ∙ ap (λ xs. list_any test xs) (sym (append_assoc shadows shared (pages ++ (l.canonical ++ rest))))
-        ∙ any-inside test (shadows ++ shared) pages (l.canonical ++ rest)
-        ∙ ap (λ xs. list_any test pages || list_any test xs) (append_assoc shadows shared (l.canonical ++ rest))
-
 -- ---- tables
 -- tables over some of these pages are over these
 wider : (first few more : ℕ) (t u : KeptTables) → few ≤ more → Adds (range_with_len first few) t u → Adds (range_with_len first more) t u
 wider first few more t u less a = record {
   top = a.top;
   stays = a.stays;
-  only = λ level number e. or-more (a.only level number e) (list_any (λ page. piece (suc level) page == number) (range_with_len (first + few) rest)) (over level number);
+  only = λ level number e. or-more (a.only level number e) (list_any (λ page. piece (suc level) page == number) (range_with_len (first + few) (more - few))) (over level number);
   above = a.above;
 }
   where
-    abbrev rest : ℕ
-    rest = more - few
-
-    over : (level number : ℕ) → has_piece level number (range_with_len first more) ≡ (has_piece level number (range_with_len first few) || list_any (λ page. piece (suc level) page == number) (range_with_len (first + few) rest))
+    over : (level number : ℕ) → has_piece level number (range_with_len first more) ≡ (has_piece level number (range_with_len first few) || list_any (λ page. piece (suc level) page == number) (range_with_len (first + few) (more - few)))
     over level number =
-        let e : more ≡ few + rest = omega (arith, less) in
-        ap (λ n. has_piece level number (range_with_len first n)) e ∙ any-range (λ page. piece (suc level) page == number) first few rest
+        let e : more ≡ few + (more - few) = omega (arith, less) in
+        ap (λ n. has_piece level number (range_with_len first n)) e ∙ any-range (λ page. piece (suc level) page == number) first few (more - few)
 
     or-more : {x a b : Bool} → (x || a) ≡ true → (c : Bool) → b ≡ (a || c) → (x || b) ≡ true
     or-more {true} {a} {b} e c f = refl

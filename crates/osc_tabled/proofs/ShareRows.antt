@@ -36,7 +36,7 @@ use Rattle.osc_ledger.specs.Tables.{has_piece, TablesTold}
 use Rattle.osc_ledger.proofs.AddedTables.{Adds, pages-add, any-range, in-range, all-over}
 use Rattle.osc_ledger.proofs.HasTables.{HasTables, added, same-tests}
 use Rattle.osc_ledger.proofs.HeapRows.{Has}
-use Rattle.osc_tabled.proofs.PlainRows.{any-inside}
+use Rattle.osc_tabled.proofs.EverMapped.{ever-shared}
 
 -- as many different frames as are taken are no more than all frames
 given-count : (xs : List ℕ) (free : List Bool) → AreApart xs → AllTaken free xs → free_count (set_free true xs free) ≡ length xs + free_count free
@@ -52,34 +52,6 @@ few-taken xs free a t =
     let l = free_count-le (set_free true xs free) in
     let e = given_length xs free in
     omega (arith, c, l, e)
-
--- ---- the pages ever mapped
--- once a region of so many pages was given
-ever-shared : (s : Setting) (l m : Ledger) (count : ℕ) → m.objects ≡ l.objects → m.canonical ≡ l.canonical → region_pages m.regions ≡ region_pages l.regions + count → (level number : ℕ)
-    → has_piece level number (ever_mapped s m) ≡ (has_piece level number (range_with_len (first_shared_page + region_pages l.regions) count) || has_piece level number (ever_mapped s l))
-ever-shared s l m count objects canonical more level number = by (λ page. piece (suc level) page == number)
-  where
-    by : (test : ℕ → Bool) → list_any test (ever_mapped s m) ≡ (list_any test (range_with_len (first_shared_page + region_pages l.regions) count) || list_any test (ever_mapped s l))
-    by test =
-        let shadows = range_with_len first_shadow_page (mark l.objects) in
-        let old = range_with_len first_shared_page (region_pages l.regions) in
-        let new = range_with_len (first_shared_page + region_pages l.regions) count in
-        let rest = l.canonical ++ stack_pages ++ s.image in
-        (λ i. list_any test (range_with_len first_shadow_page (mark (objects i)) ++ range_with_len first_shared_page (more i) ++ canonical i ++ stack_pages ++ s.image))
-        ∙ list_any-append test shadows (range_with_len first_shared_page (region_pages l.regions + count) ++ rest)
-        ∙ ap (λ b. list_any test shadows || b) (list_any-append test (range_with_len first_shared_page (region_pages l.regions + count)) rest)
-        ∙ ap (λ b. list_any test shadows || (b || list_any test rest)) (any-range test first_shared_page (region_pages l.regions) count)
-        ∙ pull (list_any test shadows) (list_any test old) (list_any test new) (list_any test rest)
-        ∙ ap (λ b. list_any test new || (list_any test shadows || b)) (sym (list_any-append test old rest))
-        ∙ ap (λ b. list_any test new || b) (sym (list_any-append test shadows (old ++ rest)))
-
-    pull : (a b n c : Bool) → (a || ((b || n) || c)) ≡ (n || (a || (b || c)))
-    pull true b true c = refl
-    pull true b false c = refl
-    pull false true true c = refl
-    pull false true false c = refl
-    pull false false true c = refl
-    pull false false false c = refl
 
 -- ---- the tables
 module _ (kind : HeapKind) (batch : ℕ) (entries : ℕ → ℕ → ℕ) (words : List ℕ) (regions : Regions) (n : ℕ) (d : Draft) (settled : Settled kind batch entries words regions d)
@@ -184,7 +156,6 @@ module _ (kind : HeapKind) (batch : ℕ) (entries : ℕ → ℕ → ℕ) (words 
   kept l leaf e =
       let r = in-range (λ page. piece 1 page == leaf) first n e in
       let passes = r.passes in let high = r.high in let end = low-end in
-      let is : r.page ≡ leaf * 512 + r.page - leaf * 512 = omega arith in
       let early : nat_le first_shadow_page (512 * leaf) ≡ false = grind (arith, nat_tests, (let z : 512 * leaf < first_shadow_page = low leaf r.page (grind (arith, nat_tests, passes)) (omega (arith, high, end)) in z)) in
       none (nat_le first_shadow_page (512 * leaf)) _ _ _ early
     where
@@ -206,11 +177,11 @@ module _ (kind : HeapKind) (batch : ℕ) (entries : ℕ → ℕ → ℕ) (words 
       m : Ledger
       m = record l { regions = (record { call = call; pages = n }) ∷ l.regions }
 
-      new : region_pages m.regions ≡ region_pages l.regions + n
-      new = sums n l.regions
-
       sums : (n : ℕ) (rs : List Region) → region_pages ((record { call = call; pages = n }) ∷ rs) ≡ region_pages rs + n
       sums n rs = omega arith
+
+      new : region_pages m.regions ≡ region_pages l.regions + n
+      new = sums n l.regions
 
       starts : first ≡ first_shared_page + region_pages l.regions
       starts = ap (λ c. first_shared_page + c) told.regions

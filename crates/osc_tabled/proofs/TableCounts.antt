@@ -2,7 +2,6 @@
 use Rattle.std.proofs.Common.{ℕ, zero, suc, ◌+◌, ◌-◌, ◌*◌, ◌/◌, ◌≡◌, ◌<◌, ◌≤◌, ◌==◌, ◌&&◌, ◌||◌, nat_le, nat_lt, not, Bool, true, false, is_some, List, ◌++◌, length, filter, arith, refl, sym, ap, subst, ◌∙◌}
 use Rattle.std.specs.List.{list_any, range_with_len}
 use Rattle.std.proofs.lemmas.Bool.Decides.{nat_tests}
-use Rattle.std.proofs.lemmas.List.Folds.{list_any-append}
 use Rattle.osc_word.specs.AddressMap.{first_shared_page, first_shadow_page}
 use Rattle.osc_sv39.specs.Walk.{piece}
 use Rattle.osc_image.specs.Frames.{stack_pages, tables_below}
@@ -14,6 +13,7 @@ use Rattle.osc_machine.specs.Replay.{Ledger}
 use Rattle.osc_machine.specs.Refusals.{Setting, region_pages, ever_mapped}
 use Rattle.osc_ledger.specs.Tables.{has_piece, TablesTold}
 use Rattle.osc_tabled.specs.Counts.{TablesAreCounted}
+use Rattle.osc_tabled.proofs.EverMapped.{ever-granted}
 use Rattle.osc_tabled.proofs.Members.{among-passing, apart-passing, any-within}
 use Rattle.osc_tabled.proofs.Counted.{AreOver, counted}
 
@@ -61,12 +61,7 @@ module _ (s : Setting) (l : Ledger) where
       let whole : (512 * leaf) / 512 ≡ leaf = omega arith in
       let within : list_any (λ page. piece 1 page == leaf) (range_with_len first_shadow_page (mark l.objects)) ≡ true =
       any-within (λ page. piece 1 page == leaf) (512 * leaf) first_shadow_page (mark l.objects) low (omega (arith, high)) (let z : ((512 * leaf) / 512 == leaf) ≡ true = grind (arith, nat_tests, whole) in z) in
-      list_any-append (λ page. piece 1 page == leaf) (range_with_len first_shadow_page (mark l.objects)) (range_with_len first_shared_page (region_pages l.regions) ++ l.canonical ++ stack_pages ++ s.image)
-      ∙ or-left (list_any (λ page. piece 1 page == leaf) (range_with_len first_shadow_page (mark l.objects))) _ within
-    where
-      or-left : (a b : Bool) → a ≡ true → (a || b) ≡ true
-      or-left true b f = refl
-      or-left false b f = absurd (let z : ⊥ = grind (arith, f) in z)
+      ever-granted (λ page. piece 1 page == leaf) s l within
 
   are-over : (t : KeptTables) → 0 < t.top → TablesTold s l t → AreOver (ever_mapped s l) gone t.top t.tables
   are-over t deep told = record {
