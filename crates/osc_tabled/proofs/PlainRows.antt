@@ -14,9 +14,9 @@ use Rattle.osc_class.specs.Rooms.{room_of, shadow_pages}
 use Rattle.osc_image.specs.Frames.{stack_pages}
 use Rattle.osc_slot.specs.declared.Block.{Block}
 use Rattle.osc_slot.specs.Slots.{Holds, beside, need_over, is_on, is_covered}
-use Rattle.osc_slot.specs.Heap.{next_block, place, frame_of as backed_by}
+use Rattle.osc_slot.specs.Heap.{next_block, place, free_count, frame_of as backed_by}
 use Rattle.osc_slot.proofs.InOrder.{any-insert}
-use Rattle.osc_paging.specs.KeptTables.{KeptTables, mapping_at}
+use Rattle.osc_paging.specs.KeptTables.{KeptTables, mapping_at, frame_of}
 use Rattle.osc_space.specs.declared.ObjectFact.{ObjectFact}
 use Rattle.osc_space.specs.Objects.{mark, leaf_given_up, facts, is_live, is_in_leaf}
 use Rattle.osc_space.specs.LeafFlags.{read_write_at}
@@ -65,7 +65,7 @@ wider : (first few more : ℕ) (t u : KeptTables) → few ≤ more → Adds (ran
 wider first few more t u less a = record {
   top = a.top;
   stays = a.stays;
-  only = λ level number e. or-more (a.only level number e) (list_any (λ page. piece (suc level) page == number) (range_with_len (first + few) (more - few))) (over level number);
+  only = λ level number e. or-more (is_some (frame_of t.tables level number)) (has_piece level number (range_with_len first few)) (has_piece level number (range_with_len first more)) (list_any (λ page. piece (suc level) page == number) (range_with_len (first + few) (more - few))) (a.only level number e) (over level number);
   above = a.above;
 }
   where
@@ -74,10 +74,10 @@ wider first few more t u less a = record {
         let e : more ≡ few + (more - few) = omega (arith, less) in
         ap (λ n. has_piece level number (range_with_len first n)) e ∙ any-range (λ page. piece (suc level) page == number) first few (more - few)
 
-    or-more : {x a b : Bool} → (x || a) ≡ true → (c : Bool) → b ≡ (a || c) → (x || b) ≡ true
-    or-more {true} {a} {b} e c f = refl
-    or-more {false} {true} {b} e c f = f
-    or-more {false} {false} {b} e c f = absurd (let z : ⊥ = grind (arith, e) in z)
+    or-more : (x a b c : Bool) → (x || a) ≡ true → b ≡ (a || c) → (x || b) ≡ true
+    or-more true a b c e f = refl
+    or-more false true b c e f = f
+    or-more false false b c e f = absurd (let z : ⊥ = grind (arith, e) in z)
 
 need-small : (frames : ℕ) (holds : Holds) (room : Room) → need_over frames holds room ≤ shadow_pages room
 need-small frames holds (Small class) = go (is_some (beside frames holds class))
@@ -104,7 +104,7 @@ module _ (batch : ℕ) (entries : ℕ → ℕ → ℕ) (words : List ℕ) (regio
   after : Settled Plain batch entries words regions now
   after = plain_settled batch entries words regions n d settled (plain_enough n d wanted)
 
-  enough : block_need d (room_of n) ≤ _
+  enough : block_need d (room_of n) ≤ free_count d.free
   enough = let e = plain_enough n d wanted in omega (arith, e)
 
   -- its pages are canonical

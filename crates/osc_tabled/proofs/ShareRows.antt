@@ -2,6 +2,7 @@
 use Rattle.std.proofs.Common.{ℕ, suc, ◌+◌, ◌*◌, ◌^◌, ◌≡◌, ◌≢◌, ◌<◌, ◌≤◌, ◌==◌, ◌&&◌, ◌||◌, nat_le, nat_lt, not, Bool, true, false, Option, Some, None, is_some, List, [], ◌∷◌, ◌++◌, length, map, take, arith, refl, sym, ap, subst, ◌∙◌}
 use Rattle.std.specs.List.{list_any, range_with_len}
 use Rattle.std.proofs.lemmas.Bool.Decides.{nat_tests}
+use Rattle.std.proofs.lemmas.List.Sums.{sum_by-cons}
 use Rattle.std.proofs.lemmas.List.Folds.{list_any-append}
 use Rattle.osc_word.specs.declared.calls.Answer.{Answer}
 use Rattle.osc_word.specs.declared.calls.Answer.TheVariants as answer
@@ -178,7 +179,7 @@ module _ (kind : HeapKind) (batch : ℕ) (entries : ℕ → ℕ → ℕ) (words 
       m = record l { regions = (record { call = call; pages = n }) ∷ l.regions }
 
       sums : (n : ℕ) (rs : List Region) → region_pages ((record { call = call; pages = n }) ∷ rs) ≡ region_pages rs + n
-      sums n rs = omega arith
+      sums n rs = let z = sum_by-cons (λ (r : Region). r.pages) (record { call = call; pages = n }) rs in omega (arith, z)
 
       new : region_pages m.regions ≡ region_pages l.regions + n
       new = sums n l.regions

@@ -169,16 +169,16 @@ done-then word k = go k.under_way
     go (Waiting c) = refl
     go (Returning done) = by done (process_at k done.calling.pid)
 
-done-fit : (image : List ℕ) (word : ℕ) (k : KernelState) → TablesFit image k → TablesFit image (job_done word k).kernel
-done-fit image word k t = same-fit image k (job_done word k).kernel config journal (done-then word k) t
-  where
-    config : (job_done word k).kernel.config ≡ k.config
-    unfolding job_done
-    config = refl
+done-config : (word : ℕ) (k : KernelState) → (job_done word k).kernel.config ≡ k.config
+unfolding job_done
+done-config word k = refl
 
-    journal : (job_done word k).kernel.journal ≡ k.journal
-    unfolding job_done
-    journal = refl
+done-journal : (word : ℕ) (k : KernelState) → (job_done word k).kernel.journal ≡ k.journal
+unfolding job_done
+done-journal word k = refl
+
+done-fit : (image : List ℕ) (word : ℕ) (k : KernelState) → TablesFit image k → TablesFit image (job_done word k).kernel
+done-fit image word k t = same-fit image k (job_done word k).kernel (done-config word k) (done-journal word k) (done-then word k) t
 
 -- ---- the kernel is given back
 quiet-after : (k : KernelState) → (finish k).kernel.under_way ≡ Quiet
