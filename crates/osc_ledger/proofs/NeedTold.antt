@@ -42,7 +42,7 @@ none-later l a first (suc count) less =
     ap (λ b. b || list_any (λ page. piece l page == a) (range_with_len (first + 1) count)) here ∙ later
 
 -- of the pieces from this page's on each lacks a table exactly where it has none of these pages
-abbrev Lacks : List TableFrame → ℕ → List ℕ → ℕ → ℕ → Type 0
+abbrev pub Lacks : List TableFrame → ℕ → List ℕ → ℕ → ℕ → Type 0
 Lacks ts level ever first last =
     (n : ℕ) → piece (suc level) first ≤ n → n ≤ piece (suc level) last → lack (frame_of ts level n) ≡ cond (has_piece level n ever) 0 1
 
@@ -94,7 +94,7 @@ one-level ts level ever first (suc (suc more)) lacks =
         omega (arith, head, split, rest, later)
 
 -- all levels
-all-levels : (ts : List TableFrame) (ever : List ℕ) (first count levels : ℕ) → ((level : ℕ) → level < levels → Lacks ts level ever first (first + count))
+pub all-levels : (ts : List TableFrame) (ever : List ℕ) (first count levels : ℕ) → ((level : ℕ) → level < levels → Lacks ts level ever first (first + count))
     → tables_below levels (range_with_len first count ++ ever) ≡ tables_below levels ever + need_below ts levels first count
 unfolding tables_below need_below
 all-levels ts ever first count zero lacks = omega arith
@@ -103,7 +103,7 @@ all-levels ts ever first count (suc level) lacks =
     let lower = all-levels ts ever first count level (λ n less. lacks n (omega (arith, less))) in
     omega (arith, here, lower)
 
-lack-is : (x : Option ℕ) → lack x ≡ cond (is_some x) 0 1
+pub lack-is : (x : Option ℕ) → lack x ≡ cond (is_some x) 0 1
 lack-is None = refl
 lack-is (Some f) = refl
 

@@ -1,0 +1,10 @@
+pub mod EverMapped
+pub mod Members
+pub mod Counted
+pub mod TableCounts
+pub mod PlainRows
+pub mod PlainKeeps
+pub mod ShareRows
+pub mod AllTold
+pub mod CallRows
+pub mod TableSteps
