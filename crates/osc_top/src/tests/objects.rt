@@ -13,7 +13,7 @@ fn judged<'a>(line: &'a str, code: &'a [u32], status: u8, err: &'a str, matched:
         data: b"",
         status,
         out: b"",
-        err: err,
+        err,
         matched,
     }
 }
