@@ -1,6 +1,6 @@
 //! Guests whose events are judged in terms of objects.
 
-use super::code::{A0, ECALL, S0, T0, ZERO, addi, bne, ld, lw, number, sd};
+use super::code::{A0, ECALL, S0, T0, ZERO, addi, bne, ld, lw, number, sd, slli};
 use super::runs::{seven, uses};
 use super::support::{Match, Row, check_rows};
 use std::test::Fail;
@@ -132,6 +132,84 @@ fn says_which_event_has_none(rt: HostRuntime) -> Result<(), Fail> {
             ),
         ],
     )
+}
+
+/// Computes with a pointer as if it were a number, and ends with 0.
+fn doubles_a_pointer() -> [u32; 7] {
+    [
+        addi(A0, ZERO, 24),
+        number(3),
+        ECALL,
+        slli(T0, A0, 1),
+        addi(A0, ZERO, 0),
+        number(1),
+        ECALL,
+    ]
+}
+
+/// Stores a pointer into a shared page, and ends with 0.
+fn shares_a_pointer() -> [u32; 11] {
+    [
+        addi(A0, ZERO, 1),
+        number(10),
+        ECALL,
+        addi(S0, A0, 0),
+        addi(A0, ZERO, 24),
+        number(3),
+        ECALL,
+        sd(A0, 0, S0),
+        addi(A0, ZERO, 0),
+        number(1),
+        ECALL,
+    ]
+}
+
+/// Frees eight bytes from an object's start, which ends it.
+fn frees_inside() -> [u32; 6] {
+    [
+        addi(A0, ZERO, 24),
+        number(3),
+        ECALL,
+        addi(A0, A0, 8),
+        number(4),
+        ECALL,
+    ]
+}
+
+#[test]
+fn says_why_it_has_none(rt: HostRuntime) -> Result<(), Fail> {
+    let line = "oscar --mode object --harts 1";
+    // ebreak, and a call that there is not
+    for (code, status, err) in [
+        (&[0x0010_0073][..], 70, "\nobject: error at event 0: trap\n"),
+        (
+            &doubles_a_pointer()[..],
+            0,
+            "\nobject: error at event 3: pointer use\n",
+        ),
+        (
+            &shares_a_pointer()[..],
+            0,
+            "\nobject: error at event 7: pointer in shared region\n",
+        ),
+        (
+            &frees_inside()[..],
+            70,
+            "\nobject: error at event 5: bad free\n",
+        ),
+        (
+            &[number(99), ECALL][..],
+            70,
+            "\nobject: error at event 1: bad call\n",
+        ),
+    ] {
+        check_rows(
+            &rt,
+            rt.alloc(),
+            &[judged(line, code, status, err, Match::End)],
+        )?;
+    }
+    Ok(())
 }
 
 #[test]
