@@ -1,6 +1,6 @@
 #!/usr/bin/env bash
-# Times the built program in mode object beside mode seed, by events: a computing guest, and pairs of malloc and
-# free. Prints events per second of both, and the line that mode object adds. It is no test.
+# Times the built program in mode object beside mode seed: a computing guest, and pairs of malloc and free.
+# Prints steps a second of both, and the line that mode object adds. It is no test.
 set -eu
 cd "$(dirname "$0")/.."
 program=${1:-crates/oscar/out/oscar}
@@ -9,19 +9,19 @@ work=$(mktemp -d)
 trap 'rm -rf "$work"' EXIT
 room=(--harts 1 --frames 4096 --shadows 1048576 --journal 1048576 --picks 100000000000)
 
-# rate MODE IMAGE: leaves events per second in `rate`
+# rate MODE IMAGE: leaves steps a second in `rate`
 rate() {
-    local start end retired
+    local start end picks
     start=$(date +%s%N)
     "$program" "${room[@]}" --mode "$1" < "$2" > "$work/out" 2> "$work/err" || { cat "$work/err"; exit 1; }
     end=$(date +%s%N)
-    retired=$(sed -n 's/^run: .* retired \([0-9]*\) .*/\1/p' "$work/err")
-    rate=$((retired * 1000000000 / (end - start)))
+    picks=$(sed -n 's/^run: picks \([0-9]*\) .*/\1/p' "$work/err")
+    rate=$((picks * 1000000000 / (end - start)))
 }
 
 for image in compute pairs_10_few; do
     rate seed "bench/$image.elf"
     plain=$rate
     rate object "bench/$image.elf"
-    echo "$image: $rate events per second judged, $plain in mode seed; $(tail -n 1 "$work/err")"
+    echo "$image: $rate steps a second judged, $plain in mode seed; $(tail -n 1 "$work/err")"
 done
