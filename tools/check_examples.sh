@@ -1,7 +1,8 @@
 #!/usr/bin/env bash
 # Runs the lines of examples/runs.txt with the program that `rt ci` or ./prove built, or with the one that is
 # named, and compares output, standard error and status with what stands beside the images. Two images are
-# made here: hello in a file of 16 MiB, the longest that is read, and in one that is a byte longer.
+# made here: hello in a file of 16 MiB, the longest that is read, and in one that is a byte longer. Then it lists
+# each image, assembles the instructions of the listing, and lists their file: that gives the same ones.
 set -u
 top=$(cd "$(dirname "${BASH_SOURCE[0]}")/.." && pwd) || exit 1
 program=${1:-$top/crates/oscar/out/oscar}
@@ -24,18 +25,23 @@ compare() {
     diff "$run.stderr" "$work/err" 2>&1
 }
 
+# count WHAT DIFFERENCE: one more that passed or failed
+count() {
+    if [ -z "$2" ]; then
+        passed=$((passed + 1))
+    else
+        failed=$((failed + 1))
+        printf '%s: %s\n' "$1" "$2"
+    fi
+}
+
 passed=0
 failed=0
 while read -r run image status words; do
     [[ $run != "" && $run != "#" ]] || continue
     read -r -a words <<< "$words"
     differs=$(compare "$run" "$image" "$status" "${words[@]}")
-    if [ -z "$differs" ]; then
-        passed=$((passed + 1))
-    else
-        failed=$((failed + 1))
-        printf '%s: %s\n' "$run" "$differs"
-    fi
+    count "$run" "$differs"
 done < runs.txt
 for image in *.elf bugs/*.elf; do
     grep -q " ${image%.elf} [0-9]" runs.txt && continue
@@ -47,5 +53,33 @@ for file in *.stdout */*.stdout; do
     echo "runs.txt lacks a run for $file"
     failed=$((failed + 1))
 done
+
+# instructions LISTING: the instructions of a listing without their addresses, which are a text
+instructions() {
+    sed -n '/ word 0x/!s/^0x[0-9a-f]* //p' "$1"
+}
+
+# round_trip IMAGE: prints how the text of an image's instructions and the listing of its file differ
+round_trip() {
+    "$program" --mode disasm --frames 4096 < "$1" > "$work/listing" 2>&1 || echo "not listed"
+    instructions "$work/listing" > "$work/text"
+    [ -s "$work/text" ] || echo "no instruction"
+    "$program" --mode asm < "$work/text" > "$work/made" 2>&1 || cat "$work/made"
+    "$program" --mode disasm --frames 4096 < "$work/made" > "$work/again" 2>&1 || echo "not listed again"
+    instructions "$work/again" | diff "$work/text" -
+}
+
+# text_of_hello: prints how the file of hello's text runs otherwise than hello's image
+text_of_hello() {
+    "$program" --mode asm < hello.txt > "$work/made" || return
+    "$program" < "$work/made" > "$work/out" 2> "$work/err" || echo "status $?"
+    cmp "$work/out" hello.stdout 2>&1
+    diff hello.stderr "$work/err" 2>&1
+}
+
+for image in *.elf bugs/*.elf; do
+    count "text of $image" "$(round_trip "$image")"
+done
+count "hello.txt" "$(text_of_hello 2>&1)"
 echo "examples: $passed passed, $failed failed"
 [ "$failed" -eq 0 ]

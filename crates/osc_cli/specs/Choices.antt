@@ -15,6 +15,7 @@ named names text = option_map (λ name. name.1) (find (λ name. bytes_eq text na
 abbrev pub modes : List (Text × Mode)
 modes =
     (codes "seed", Seed)
+    ∷ (codes "object", Object)
     ∷ (codes "gen", Gen)
     ∷ (codes "asm", Asm)
     ∷ (codes "disasm", Disasm)

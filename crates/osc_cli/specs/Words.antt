@@ -6,7 +6,7 @@ use Rattle.osc_word.specs.declared.settings.HeapKind.{HeapKind}
 use Rattle.osc_word.specs.declared.settings.HeapKind.TheVariants.{Oscar}
 use Rattle.osc_word.specs.Limits.{first_fault}
 use Rattle.osc_cli.specs.declared.task.Mode.{Mode}
-use Rattle.osc_cli.specs.declared.task.Mode.TheVariants.{Run, Seed, Object}
+use Rattle.osc_cli.specs.declared.task.Mode.TheVariants.{Run, Seed}
 use Rattle.osc_cli.specs.declared.task.Task.{Task}
 use Rattle.osc_cli.specs.declared.task.WordsFault.{WordsFault}
 use Rattle.osc_cli.specs.declared.task.WordsFault.TheVariants.{Words, Value, Memory}
@@ -68,10 +68,9 @@ asked words = if is_refused words then Err Words else chosen (given words)
 abbrev pub Says : List Text → Result Task WordsFault → Type 0
 Says words answer = (answer ≡ Err Memory) ⊎ (answer ≡ asked words)
 
--- the task can be run one step after another, and nothing else is to be done beside: its configuration is
--- in its limits, and the heap is one that the mode allows
+-- the task can be run one step after another: its configuration is in its limits, and the heap is one that
+-- the mode allows
 pub record IsReady (task : Task) : Type 0 where
   pub stepped : task.mode ≢ Run
-  pub alone : task.mode ≢ Object
   pub config : first_fault task.config ≡ None
   pub heap : has_plain task.mode ≡ false → task.config.heap ≡ Oscar

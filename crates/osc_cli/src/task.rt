@@ -6,7 +6,7 @@ ghost use Rattle.osc_cli.specs.Command.{told};
 ghost use Rattle.osc_cli.specs.Words as spec;
 ghost use Rattle.osc_cli.specs.Choices as choices;
 ghost use Rattle.osc_cli.specs.declared.task.WordsFault.TheVariants as fault;
-ghost use Rattle.osc_cli.specs.declared.task.Mode.TheVariants.{Run, Object};
+ghost use Rattle.osc_cli.specs.declared.task.Mode.TheVariants.{Run};
 ghost use Rattle.osc_word.specs.declared.settings.HeapKind.TheVariants.{Oscar};
 
 use crate::command::{command_of, text_of};
@@ -79,10 +79,11 @@ impl From<AllocError> for WordsFault {
 #[tactic(auto, unfolding(crate::specs::Choices::mode_of))]
 fn mode_of(text: Option<&str>) -> Option<Mode>
     ensures names { result ≡ choices.mode_of (option_map (λ t. t.now) text.entry) }
-    ensures stepped { IfSome result (λ mode. (mode ≢ Run) × (mode ≢ Object)) }
+    ensures stepped { IfSome result (λ mode. mode ≢ Run) }
 {
     match text {
         None | Some("seed") => Some(Mode::Seed),
+        Some("object") => Some(Mode::Object),
         Some("gen") => Some(Mode::Gen),
         Some("asm") => Some(Mode::Asm),
         Some("disasm") => Some(Mode::Disasm),

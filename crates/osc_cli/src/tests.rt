@@ -89,6 +89,13 @@ fn whole_tasks(rt: HostRuntime) {
     for (line, task) in [
         ("oscar", defaults()),
         ("any/name", defaults()),
+        (
+            "oscar --mode object --heap oscar",
+            Task {
+                mode: Mode::Object,
+                ..defaults()
+            },
+        ),
         (LEAST, least()),
         (MOST, most()),
     ] {
@@ -144,8 +151,8 @@ static STRANGE: [&str; 19] = [
 /// Lines with the place of the first option whose text is not allowed.
 static REFUSED: [(&str, u8); 40] = [
     ("oscar --mode run", 0),
-    ("oscar --mode object", 0),
-    ("oscar --mode object --heap plain", 0),
+    ("oscar --mode Object", 0),
+    ("oscar --mode object --heap plain", 1),
     ("oscar --mode Seed", 0),
     ("oscar --mode=", 0),
     ("oscar --mode seedy", 0),

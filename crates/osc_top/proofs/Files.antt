@@ -31,11 +31,12 @@ use Rattle.osc_machine.specs.Views.{ending_of, machine_over}
 use Rattle.osc_seed.specs.Seeded.{picks_made}
 use Rattle.osc_top.specs.declared.outcome.Outcome.{Outcome}
 use Rattle.osc_top.specs.declared.outcome.Outcome.TheVariants.{UnknownWords, BadOption, BadImage, NoRoom, SourceFault, NoMemory, Spent, Fault, Exit, BadText, Done}
+use Rattle.osc_top.specs.declared.outcome.Verdict.{Verdict}
 use Rattle.osc_top.specs.declared.outcome.Refusal.{Refusal}
 use Rattle.osc_top.specs.declared.outcome.Refusal.TheVariants as refusal
 use Rattle.osc_top.specs.declared.decision.Decision.{Decision}
 use Rattle.osc_top.specs.declared.decision.Decision.TheVariants.{Refused, Made}
-use Rattle.osc_top.specs.Due.{Due, due_of, image_due, outcome_of, over_due, refused, run_due, HasGuestStatus}
+use Rattle.osc_top.specs.Due.{Due, due_of, image_due, is_judged, judgement, outcome_of, over_due, refused, run_due, HasGuestStatus}
 use Rattle.osc_top.specs.Making.{done, file_due, listed_due, listing_due, IsAssembled, IsDue, IsDueIn}
 use Rattle.osc_top.specs.Answer.{IsRead, HasFile, TakesFront, FromFile, TaskCause, TaskDecided}
 use Rattle.osc_top.specs.Loading.{IsLoaded, Loads, TakesPart, longest_read}
@@ -187,21 +188,23 @@ end-from-run None = tt
 end-from-run (Some ending.Fault) = tt
 end-from-run (Some (ending.Exit status)) = tt
 
-ran-from-run : (task : Task) (picks : ℕ) (s : State) (over : Bool) → FromRun (if over then over_due picks s else refused (Spent task.picks)).outcome
+ran-from-run : (task : Task) (picks : ℕ) (s : State) (said : Option Verdict) (over : Bool)
+    → FromRun (if over then over_due picks s said else refused (Spent task.picks)).outcome
 unfolding FromRun
-ran-from-run task picks s true = end-from-run (ending_of s)
-ran-from-run task picks s false = tt
+ran-from-run task picks s said true = end-from-run (ending_of s)
+ran-from-run task picks s said false = tt
 
-run-from-run : (task : Task) (start : State) → FromRun (run_due task start).outcome
-run-from-run task start =
+run-from-run : (task : Task) (image : Image) (start : State) → FromRun (run_due task image start).outcome
+run-from-run task image start =
     let picks = picks_made start task.seed task.picks in
-    ran-from-run task (length picks) (run start picks).state (machine_over (run start picks).state)
+    let ran = run start picks in
+    ran-from-run task (length picks) ran.state (judgement (is_judged task.mode) image task.config ran.commits) (machine_over ran.state)
 
 room-from-run : (task : Task) (image : Image) (small : Bool)
-    → FromRun (if small then refused (NoRoom (needed_frames task.config.levels image) task.config.frames) else run_due task (start_of image task.config)).outcome
+    → FromRun (if small then refused (NoRoom (needed_frames task.config.levels image) task.config.frames) else run_due task image (start_of image task.config)).outcome
 unfolding FromRun
 room-from-run task image true = tt
-room-from-run task image false = run-from-run task (start_of image task.config)
+room-from-run task image false = run-from-run task image (start_of image task.config)
 
 image-from-run : (task : Task) (image : Result Image ImageFault) → FromRun (image_due task image).outcome
 unfolding FromRun

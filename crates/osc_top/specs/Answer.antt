@@ -50,8 +50,8 @@ pub record FromFile (task : Task) (before after : Option (List ℕ)) (due : Due)
   pub gives : IsDue task file due
   pub had : HasFile task.mode task.number before after file
 
--- nothing was run, and err is due the line that says why
-pub record NothingRun (task : Task) (before after : Option (List ℕ)) (due : Due) (outcome : Outcome) : Type 0 where
+-- nothing is told of a run, and err is due the line that says why
+pub record NothingTold (task : Task) (before after : Option (List ℕ)) (due : Due) (outcome : Outcome) : Type 0 where
   pub line : due ≡ refused outcome
   pub front : TakesFront task.mode before after
 
@@ -60,8 +60,8 @@ pub record NothingRun (task : Task) (before after : Option (List ℕ)) (due : Du
 abbrev pub TaskCause : Task → Option (List ℕ) → Option (List ℕ) → Type 0 → Due → Outcome → Type 0
 TaskCause task before after rose due UnknownWords = ⊥
 TaskCause task before after rose due (BadOption place) = ⊥
-TaskCause task before after rose due SourceFault = rose × (task.mode ≢ Gen) × NothingRun task before after due SourceFault
-TaskCause task before after rose due NoMemory = NothingRun task before after due NoMemory
+TaskCause task before after rose due SourceFault = rose × (task.mode ≢ Gen) × NothingTold task before after due SourceFault
+TaskCause task before after rose due NoMemory = NothingTold task before after due NoMemory
 TaskCause task before after rose due (BadImage fault) = FromFile task before after due
 TaskCause task before after rose due (NoRoom needed frames) = FromFile task before after due
 TaskCause task before after rose due (Spent picks) = FromFile task before after due

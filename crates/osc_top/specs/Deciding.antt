@@ -26,7 +26,7 @@ state_in over = state_of over.machine over.harts.items
 -- what a decision is due
 abbrev pub due_in : Decision → Due
 due_in (Refused outcome) = refused outcome
-due_in (Ran over) = over_due over.picks (state_in over)
+due_in (Ran over) = over_due over.picks (state_in over) over.verdict
 due_in (Made output) = done output.items
 
 -- a run that is over is one of a machine that is sound

@@ -14,11 +14,21 @@ use Rattle.osc_machine.specs.Run.{run}
 use Rattle.osc_machine.specs.Views.{counts_of, ending_of, machine_over, output_of, reports_of}
 use Rattle.osc_machine.specs.Due.{report_lines, summary_line}
 use Rattle.osc_seed.specs.Seeded.{picks_made}
+use Rattle.std.specs.Prelude.{Bool, true, false}
+use Rattle.osc_word.specs.declared.settings.Config.{Config}
+use Rattle.osc_word.specs.declared.steps.Event.{Event}
+use Rattle.osc_world.specs.Run.{object_run_of}
+use Rattle.osc_judge.specs.declared.judging.JudgedError.{JudgedError}
+use Rattle.osc_judge.specs.Judging.{error_in}
+use Rattle.osc_cli.specs.declared.task.Mode.{Mode}
+use Rattle.osc_cli.specs.declared.task.Mode.TheVariants.{Object}
 use Rattle.osc_cli.specs.declared.task.Task.{Task}
 use Rattle.osc_cli.specs.Command.{name_at}
 use Rattle.osc_top.specs.declared.outcome.Outcome.{Outcome}
 use Rattle.osc_top.specs.declared.outcome.Outcome.TheVariants.{UnknownWords, BadOption, BadImage, NoRoom, SourceFault, NoMemory, Spent, Fault, Exit, BadText, Done}
-use Rattle.osc_top.specs.Texts.{fault_text, line, text_fault}
+use Rattle.osc_top.specs.declared.outcome.Verdict.{Verdict}
+use Rattle.osc_top.specs.declared.outcome.Verdict.TheVariants as verdict
+use Rattle.osc_top.specs.Texts.{fault_text, line, object_text, text_fault}
 
 -- the exit status of the program
 abbrev pub status_of : Outcome → ℕ
@@ -88,6 +98,32 @@ pub record Due : Type 0 where
 abbrev pub refused : Outcome → Due
 refused outcome = record { outcome = outcome; output = []; text = refusal_line outcome }
 
+-- ---- a run that is judged in terms of objects
+
+-- the mode that judges its runs
+abbrev pub is_judged : Mode → Bool
+is_judged Object = true
+is_judged _ = false
+
+abbrev pub verdict_of : Option JudgedError → Verdict
+verdict_of None = verdict.Clean
+verdict_of (Some error) = verdict.Error error
+
+-- in a run that is judged, the first error of the object run over the events that committed, or none
+abbrev pub judgement : Bool → Image → Config → List Event → Option Verdict
+judgement false image config events = None
+judgement true image config events = Some (verdict_of (error_in (object_run_of image config events)))
+
+-- what is said of it, in pieces
+abbrev pub verdict_text : Verdict → List (List ℕ)
+verdict_text verdict.Clean = codes "object: clean" ∷ []
+verdict_text (verdict.Error error) = codes "object: error at event " ∷ decimal error.event ∷ codes ": " ∷ object_text error.why ∷ []
+
+-- its line, and none where the run is not judged
+abbrev pub verdict_line : Option Verdict → List ℕ
+verdict_line None = []
+verdict_line (Some said) = line (verdict_text said)
+
 -- ---- a run that is over
 
 -- how process 0 ended, which it has in every machine that is over
@@ -96,25 +132,34 @@ outcome_of None = Fault
 outcome_of (Some ending.Fault) = Fault
 outcome_of (Some (ending.Exit status)) = Exit status
 
--- the output, and a line for each report and the summary, of a run of so many picks that ends so
-abbrev pub over_due : ℕ → State → Due
-over_due picks s = record {
+-- the summary of a run of so many picks, and what is said of it where it is judged
+abbrev pub mode_lines : ℕ → State → Option Verdict → List ℕ
+mode_lines picks s said = summary_line picks (counts_of s) ++ verdict_line said
+
+-- the output, a line for each report, and the lines of the mode, of a run of so many picks that ends so
+abbrev pub over_due : ℕ → State → Option Verdict → Due
+over_due picks s said = record {
   outcome = outcome_of (ending_of s);
   output = output_of s;
-  text = report_lines (reports_of s) ++ summary_line picks (counts_of s);
+  text = report_lines (reports_of s) ++ mode_lines picks s said;
 }
 
 -- a run that isn't over is spent
-abbrev pub ran_due : Task → ℕ → State → Due
-ran_due task picks s = if machine_over s then over_due picks s else refused (Spent task.picks)
+abbrev pub ran_due : Task → ℕ → State → Option Verdict → Due
+ran_due task picks s said = if machine_over s then over_due picks s said else refused (Spent task.picks)
 
 -- ---- a task and its file
 
--- the machine runs from its start over the picks of the task's seed, until it is over
-abbrev pub run_due : Task → State → Due
-run_due task start =
+-- the machine runs from its start over the picks of the task's seed, until it is over, and its events are
+-- judged or not
+abbrev pub seeded_due : Bool → Task → Image → State → Due
+seeded_due judged task image start =
     let picks = picks_made start task.seed task.picks in
-    ran_due task (length picks) (run start picks).state
+    let ran = run start picks in
+    ran_due task (length picks) ran.state (judgement judged image task.config ran.commits)
+
+abbrev pub run_due : Task → Image → State → Due
+run_due task image start = seeded_due (is_judged task.mode) task image start
 
 -- an image is run if its pages, the stack and their page tables fit the frames
 abbrev pub image_due : Task → Result Image ImageFault → Due
@@ -122,7 +167,7 @@ image_due task (Err fault) = refused (BadImage fault)
 image_due task (Ok image) =
     if nat_lt task.config.frames (needed_frames task.config.levels image)
     then refused (NoRoom (needed_frames task.config.levels image) task.config.frames)
-    else run_due task (start_of image task.config)
+    else run_due task image (start_of image task.config)
 
 unfoldable pub due_of : Task → List ℕ → Due
 due_of task file = image_due task (image_of file)

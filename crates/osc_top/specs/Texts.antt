@@ -10,6 +10,8 @@ use Rattle.osc_image.specs.declared.SegmentWhy.TheVariants.{TableEnd, Dynamic, I
 use Rattle.osc_assemble.specs.declared.TextFault.{TextFault}
 use Rattle.osc_assemble.specs.declared.TextFault.TheVariants as text
 use Rattle.osc_machine.specs.Due.{ended_line}
+use Rattle.osc_world.specs.declared.ObjectWhy.{ObjectWhy}
+use Rattle.osc_world.specs.declared.ObjectWhy.TheVariants as object
 
 abbrev pub why_text : SegmentWhy → List ℕ
 why_text TableEnd = codes "table end"
@@ -52,6 +54,17 @@ text_fault (text.Label number) = line_fault number (codes " label")
 text_fault (text.Far number) = line_fault number (codes " far")
 text_fault text.FileTooLong = codes "file too long" ∷ []
 text_fault text.Memory = codes "no memory" ∷ []
+
+-- why an event has no meaning in terms of objects
+abbrev pub object_text : ObjectWhy → List ℕ
+object_text object.Trap = codes "trap"
+object_text object.PointerUse = codes "pointer use"
+object_text object.DeadObject = codes "dead object"
+object_text object.Outside = codes "outside"
+object_text object.PointerBytes = codes "pointer bytes"
+object_text object.PointerShared = codes "pointer in shared region"
+object_text object.BadFree = codes "bad free"
+object_text object.BadCall = codes "bad call"
 
 -- the line of its pieces
 abbrev pub line : List (List ℕ) → List ℕ

@@ -1,15 +1,17 @@
 //! What is decided before anything is written.
 
-use crate::outcome::Outcome;
+use crate::outcome::{Outcome, Verdict};
 use osc_core::{Ending, Hart, Machine};
 use osc_report::Report;
 
-/// A machine that is over, its harts, and the picks that it made.
+/// A machine that is over, its harts, the picks that it made, and what is said of its events where they were
+/// judged.
 #[derive(Drop)]
 pub struct Over {
     pub machine: Machine,
     pub harts: Vec<Hart>,
     pub picks: u64,
+    pub verdict: Option<Verdict>,
 }
 
 /// What a call comes to.

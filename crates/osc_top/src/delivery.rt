@@ -7,13 +7,14 @@ ghost use Rattle.osc_machine.specs.Views.{counts_of};
 ghost use Rattle.osc_core.specs.Sound.{Sound};
 ghost use Rattle.osc_outside.specs.Bytes.{Appends};
 ghost use Rattle.osc_outside.specs.Faults.{Rose};
-ghost use Rattle.osc_top.specs.Due.{HasGuestStatus, over_due, refusal_line, sink_fault};
+ghost use Rattle.osc_top.specs.Due.{HasGuestStatus, mode_lines, over_due, refusal_line, sink_fault};
+ghost use Rattle.osc_top.specs.Due as due;
 ghost use Rattle.osc_top.specs.Answer.{AppendsFront, Broken, Delivered};
 ghost use Rattle.osc_top.specs.Deciding.{due_in, state_in, IsSound};
 
 use crate::decision::{Decision, Over};
-use crate::lines::{refusal_line, summary_line};
-use crate::outcome::{Outcome, Status};
+use crate::lines::{refusal_line, summary_line, verdict_line};
+use crate::outcome::{Outcome, Status, Verdict};
 use osc_outside::{Failed, Sink};
 use osc_report::{LineBuf, Report, line};
 
@@ -76,16 +77,40 @@ fn write_summary<K: Sink>(sink: &mut K, over: &Over) -> Result<(), Failed>
     write_all(sink, text.as_bytes())
 }
 
-/// Writes the text of a run that is over: its reports, then its summary.
+/// Writes the line of what is said of a run, if it was judged.
+fn write_verdict<K: Sink>(sink: &mut K, verdict: Option<Verdict>) -> Result<(), Failed>
+    ensures done { OnOk result (K.faults sink.new ≡ K.faults sink.old) }
+    ensures cause { OnErr result (Rose (K.faults sink.old) (K.faults sink.new)) }
+    ensures part { OnErr result (AppendsFront (K.holds sink.old) (K.holds sink.new) (due.verdict_line verdict)) }
+    ensures all { OnOk result (Appends (K.holds sink.old) (K.holds sink.new) (due.verdict_line verdict)) }
+{
+    let mut text = LineBuf::new();
+    verdict_line(verdict, &mut text);
+    write_all(sink, text.as_bytes())
+}
+
+/// Writes the lines of the mode of a run that is over: its summary, then what is said of it.
+fn write_mode<K: Sink>(sink: &mut K, over: &Over) -> Result<(), Failed>
+    requires { Sound (state_in over.now) }
+    ensures done { OnOk result (K.faults sink.new ≡ K.faults sink.old) }
+    ensures cause { OnErr result (Rose (K.faults sink.old) (K.faults sink.new)) }
+    ensures part { OnErr result (AppendsFront (K.holds sink.old) (K.holds sink.new) (mode_lines over.now.picks (state_in over.now) over.now.verdict)) }
+    ensures all { OnOk result (Appends (K.holds sink.old) (K.holds sink.new) (mode_lines over.now.picks (state_in over.now) over.now.verdict)) }
+{
+    write_summary(sink, over)?;
+    write_verdict(sink, over.verdict)
+}
+
+/// Writes the text of a run that is over: its reports, then the lines of its mode.
 fn write_over<K: Sink>(sink: &mut K, over: &Over) -> Result<(), Failed>
     requires { Sound (state_in over.now) }
     ensures done { OnOk result (K.faults sink.new ≡ K.faults sink.old) }
     ensures cause { OnErr result (Rose (K.faults sink.old) (K.faults sink.new)) }
-    ensures part { OnErr result (AppendsFront (K.holds sink.old) (K.holds sink.new) (over_due over.now.picks (state_in over.now)).text) }
-    ensures all { OnOk result (Appends (K.holds sink.old) (K.holds sink.new) (over_due over.now.picks (state_in over.now)).text) }
+    ensures part { OnErr result (AppendsFront (K.holds sink.old) (K.holds sink.new) (over_due over.now.picks (state_in over.now) over.now.verdict).text) }
+    ensures all { OnOk result (Appends (K.holds sink.old) (K.holds sink.new) (over_due over.now.picks (state_in over.now) over.now.verdict).text) }
 {
     write_reports(sink, over.reports())?;
-    write_summary(sink, over)
+    write_mode(sink, over)
 }
 
 /// Writes the line of a refusal.

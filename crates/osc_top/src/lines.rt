@@ -6,10 +6,11 @@ ghost use Rattle.osc_machine.specs.Due.{summary_line};
 ghost use Rattle.osc_top.specs.Due as due;
 ghost use Rattle.osc_top.specs.Texts as texts;
 
-use crate::outcome::Outcome;
+use crate::outcome::{Outcome, Verdict};
 use osc_assemble::TextFault;
 use osc_cli::option_name;
 use osc_elf::{ImageFault, SegmentWhy};
+use osc_judge::ObjectWhy;
 use osc_machine::Counts;
 use osc_report::LineBuf;
 
@@ -160,4 +161,51 @@ pub fn summary_line(picks: u64, counts: &Counts, into: &mut LineBuf)
     into.decimal(b" marks ", counts.marks);
     into.decimal(b" peak ", u64::from(counts.peak));
     into.text(b"\n");
+}
+
+/// Why an event has no meaning, in words.
+fn object_text(why: ObjectWhy) -> &'static str
+    ensures text { result.now ≡ texts.object_text why }
+    ensures length { length result.now ≤ 24 }
+{
+    match why {
+        ObjectWhy::Trap => "trap",
+        ObjectWhy::PointerUse => "pointer use",
+        ObjectWhy::DeadObject => "dead object",
+        ObjectWhy::Outside => "outside",
+        ObjectWhy::PointerBytes => "pointer bytes",
+        ObjectWhy::PointerShared => "pointer in shared region",
+        ObjectWhy::BadFree => "bad free",
+        ObjectWhy::BadCall => "bad call",
+    }
+}
+
+/// Appends what is said of a run that was judged, without a newline.
+fn append_verdict(verdict: Verdict, into: &mut LineBuf)
+    requires { length into.old ≤ 1 }
+    ensures after { into.new ≡ into.old ++ concat (due.verdict_text verdict) }
+    ensures length { length into.new ≤ 100 }
+{
+    match verdict {
+        Verdict::Clean => into.text(b"object: clean"),
+        Verdict::Error(error) => {
+            into.decimal(b"object: error at event ", error.event);
+            into.text(b": ");
+            into.text(object_text(error.why).as_bytes());
+        }
+    }
+}
+
+/// The line of what is said of a run, or nothing where it was not judged. It replaces what the buffer held.
+pub fn verdict_line(verdict: Option<Verdict>, into: &mut LineBuf)
+    ensures { into.new ≡ due.verdict_line verdict }
+{
+    into.clear();
+    match verdict {
+        None => {}
+        Some(verdict) => {
+            append_verdict(verdict, into);
+            into.text(b"\n");
+        }
+    }
 }

@@ -2,6 +2,7 @@
 
 use osc_assemble::TextFault;
 use osc_elf::ImageFault;
+use osc_judge::JudgedError;
 use osc_outside::Failed;
 use osc_word::OptionNo;
 use std::alloc::AllocError;
@@ -23,7 +24,7 @@ pub enum Outcome {
     NoRoom { needed: u64, frames: u32 },
     /// The source failed.
     SourceFault,
-    /// Memory ran out before the first step.
+    /// Memory ran out, before the first step or while events were judged.
     NoMemory,
     /// The machine is not over after all picks of the task.
     Spent { picks: u64 },
@@ -57,6 +58,15 @@ impl Outcome {
             Outcome::Done => 0,
         }
     }
+}
+
+/// What is said in terms of objects of a run that is over.
+#[derive(Clone, Copy, Debug, PartialEq, Eq)]
+pub enum Verdict {
+    /// Each of its events has a meaning.
+    Clean,
+    /// The first event that has none.
+    Error(JudgedError),
 }
 
 /// Why nothing was run.

@@ -6,6 +6,7 @@ mod faults;
 mod files;
 mod generated;
 mod heaps;
+mod objects;
 mod outside;
 mod processes;
 mod runs;

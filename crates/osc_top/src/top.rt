@@ -1,6 +1,6 @@
 //! The top call.
 
-ghost use Rattle.std.specs.Prelude.{ℕ, ◌≡◌, ◌≢◌, ◌≤◌, ◌<◌, List, length, map, IfOk, None, Ok};
+ghost use Rattle.std.specs.Prelude.{ℕ, ◌≡◌, ◌≢◌, ◌≤◌, ◌<◌, true, false, List, length, map, IfOk, None, Ok};
 ghost use Rattle.osc_outside.specs.Faults.{Rose};
 ghost use Rattle.osc_word.specs.Limits.{first_fault};
 ghost use Rattle.osc_core.specs.Boot.{IsOfFile};
@@ -9,7 +9,9 @@ ghost use Rattle.osc_core.specs.Shared.{state_of};
 ghost use Rattle.osc_core.specs.Sound.{Sound};
 ghost use Rattle.osc_machine.specs.Run.{run};
 ghost use Rattle.osc_cli.specs.Words.{asked, IsReady};
-ghost use Rattle.osc_top.specs.Due.{due_of, image_due, run_due, HasGuestStatus};
+ghost use Rattle.osc_image.specs.Image as image;
+ghost use Rattle.osc_top.specs.Due as due;
+ghost use Rattle.osc_top.specs.Due.{due_of, image_due, seeded_due, HasGuestStatus};
 ghost use Rattle.osc_top.specs.Answer.{Answers, Quiet, TaskAnswers, TaskDecided};
 ghost use Rattle.osc_top.specs.Deciding.{due_in, words_outcome, ComesTo, Decides, DecidesFor, IsSound, Obtains};
 ghost use Rattle.osc_top.specs.Making.{IsDue};
@@ -23,22 +25,41 @@ use crate::decision::{Decision, Over};
 use crate::delivery::deliver;
 use crate::loading::load;
 use crate::making::{assembled, listed};
-use crate::outcome::{Outcome, Refusal, Status};
+use crate::outcome::{Outcome, Refusal, Status, Verdict};
 use osc_cli::{Mode, Task, WordsFault, read_words};
 use osc_core::laws::{ends_fit, starts_sound};
 use osc_core::{BootFault, Booted, Machine};
 use osc_elf::{Image, ImageFault, read_image};
 use osc_gen::guest_of;
+use osc_judge::{JudgedError, World};
+use osc_judged::run_judged;
 use osc_outside::{Sink, Source};
 use osc_seed::{SeededEnd, run_seeded};
 use std::alloc::{AllocError, Global};
+
+/// Whether the events of a run are judged in this mode.
+fn is_judged(mode: Mode) -> bool
+    ensures { result ≡ due.is_judged mode }
+{
+    matches!(mode, Mode::Object)
+}
+
+/// What is said of a run with this first error.
+fn verdict_of(error: Option<JudgedError>) -> Verdict
+    ensures { result ≡ due.verdict_of error }
+{
+    match error {
+        None => Verdict::Clean,
+        Some(error) => Verdict::Error(error),
+    }
+}
 
 /// Runs a machine from its start by the seed of a task.
 fn run_booted(task: &Task, booted: Booted) -> Decision
     requires harts { 0 < length booted.harts.items }
     requires sound { Sound (state_of booted.machine booted.harts.items) }
     requires ends { (picks : List ℕ) → EndFits (run (state_of booted.machine booted.harts.items) picks).state }
-    ensures { Decides result (run_due task.now (state_of booted.machine booted.harts.items)) }
+    ensures { (image : image.Image) → Decides result (seeded_due false task.now image (state_of booted.machine booted.harts.items)) }
 {
     let Booted {
         mut machine,
@@ -49,8 +70,46 @@ fn run_booted(task: &Task, booted: Booted) -> Decision
             machine,
             harts,
             picks,
+            verdict: None,
         }),
         SeededEnd::Spent => Decision::Refused(Outcome::Spent { picks: task.picks }),
+    }
+}
+
+/// Runs the machine of an image from its start by the seed of a task, and judges its events. An `Err` is want
+/// of memory, which may come at each event.
+fn judge_booted(
+    alloc: Global,
+    task: &Task,
+    image: &Image,
+    booted: Booted,
+) -> Result<Decision, AllocError>
+    requires harts { 0 < length booted.harts.items }
+    requires sound { Sound (state_of booted.machine booted.harts.items) }
+    requires ends { (picks : List ℕ) → EndFits (run (state_of booted.machine booted.harts.items) picks).state }
+    ensures { IfOk result (λ d. Decides d (seeded_due true task.now image.now (state_of booted.machine booted.harts.items))) }
+{
+    let Booted {
+        mut machine,
+        mut harts,
+    } = booted;
+    let mut world = World::boot(alloc, image, &task.config)?;
+    let ended = run_judged(
+        alloc,
+        &mut machine,
+        &mut harts,
+        &mut world,
+        task.seed,
+        task.picks,
+    )?;
+    match ended.end {
+        SeededEnd::Over { picks } => Ok(Decision::Ran(Over {
+            machine,
+            harts,
+            picks,
+            verdict: Some(verdict_of(ended.error)),
+        })),
+        SeededEnd::Spent => Ok(Decision::Refused(Outcome::Spent { picks: task.picks })),
     }
 }
 
@@ -63,7 +122,13 @@ fn run_image(alloc: Global, task: &Task, image: &Image) -> Result<Decision, Allo
     starts_sound();
     ends_fit();
     match Machine::boot(alloc, image, &task.config) {
-        Ok(booted) => Ok(run_booted(task, booted)),
+        Ok(booted) => {
+            if is_judged(task.mode) {
+                judge_booted(alloc, task, image, booted)
+            } else {
+                Ok(run_booted(task, booted))
+            }
+        }
         Err(BootFault::NoRoom { needed, frames }) => {
             Ok(Decision::Refused(Outcome::NoRoom { needed, frames }))
         }
@@ -139,9 +204,10 @@ fn decide<S: Source>(alloc: Global, task: &Task, source: &mut S) -> Decision
 
 /// Does a task: takes its image from the source, or makes it in mode gen, runs the machine by the picks of
 /// the task's seed, writes the guest's output to `out`, and then to `err` a line for each report, in the
-/// order of the ends that they tell, and the summary. Where nothing is run, and where the machine is not
-/// over after the picks, it writes nothing to `out` and one line to `err` that says why. It waits for nobody
-/// and always returns.
+/// order of the ends that they tell, and the summary. In mode object it judges the run's events in terms of
+/// objects beside, and writes one line more: that all have a meaning, or the first that has none. Where nothing
+/// is run, where memory runs out, and where the machine is not over after the picks, it writes nothing to `out`
+/// and one line to `err` that says why. It waits for nobody and always returns.
 ///
 /// The modes asm and disasm run nothing: they write to `out` the file of the source's text, or the listing
 /// of the source's image, and nothing to `err`. Of an image's frames they count its pages alone.
@@ -153,7 +219,7 @@ fn decide<S: Source>(alloc: Global, task: &Task, source: &mut S) -> Decision
 /// | 65 | exactly where the file is no image, with its first fault, or needs more frames than there are, with both numbers |
 /// | 66 | only where the source failed, and never in mode gen; nothing is run |
 /// | 67 | only where `out` or `err` failed; where `out` did not, it has all of the output; it comes before every other status |
-/// | 68 | where memory ran out before the first step, and in modes asm and disasm at any moment |
+/// | 68 | where memory ran out before the first step, in mode object at an event, and in modes asm and disasm at any moment |
 /// | 69 | exactly where the machine is not over after the picks |
 /// | 70 | exactly where the machine is over and process 0 ended by a fault |
 /// | 72 | in mode asm, exactly where the text has no file, with its first fault |

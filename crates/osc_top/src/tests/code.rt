@@ -56,6 +56,10 @@ pub fn sltiu(rd: u32, rs1: u32, immediate: i32) -> u32 {
     format_i(immediate, rs1, 3, rd, 0x13)
 }
 
+pub fn lw(rd: u32, offset: i32, rs1: u32) -> u32 {
+    format_i(offset, rs1, 2, rd, 0x03)
+}
+
 pub fn ld(rd: u32, offset: i32, rs1: u32) -> u32 {
     format_i(offset, rs1, 3, rd, 0x03)
 }

@@ -8,20 +8,17 @@ use osc_core::laws::starts_sound;
 use osc_core::{Booted, Ending, Machine};
 use osc_elf::read_image;
 use osc_gen::guest_of;
+use osc_judge::World;
+use osc_judged::run_judged;
 use osc_seed::{SeededEnd, run_seeded};
 use osc_word::{Answer, Call, Config, Entry, HeapKind};
 use std::alloc::Global;
 use std::process::Abort;
 use std::test::Fail;
 
-/// The machine with the guest of a number, and else what a run has that is told nothing.
-fn boot(alloc: Global, number: u64, heap: HeapKind) -> Result<Booted, Fail>
-    ensures { IfOk result (λ booted. Sound (state_of booted.machine booted.harts.items)) }
-{
-    starts_sound();
-    let file = guest_of(alloc, number)?;
-    let image = read_image(alloc, &file)?;
-    let config = Config {
+/// What a run has that is told nothing but its heap.
+fn config_of(heap: HeapKind) -> Config {
+    Config {
         heap,
         harts: 4,
         processes: 16,
@@ -30,9 +27,26 @@ fn boot(alloc: Global, number: u64, heap: HeapKind) -> Result<Booted, Fail>
         journal: 65536,
         levels: 3,
         batch: 1,
-    };
-    let booted = Machine::boot(alloc, &image, &config)?;
+    }
+}
+
+/// The machine with the guest of a number.
+fn boot(alloc: Global, number: u64, heap: HeapKind) -> Result<Booted, Fail>
+    ensures { IfOk result (λ booted. Sound (state_of booted.machine booted.harts.items)) }
+{
+    starts_sound();
+    let file = guest_of(alloc, number)?;
+    let image = read_image(alloc, &file)?;
+    let booted = Machine::boot(alloc, &image, &config_of(heap))?;
     Ok(booted)
+}
+
+/// The world with the guest of a number.
+fn boot_world(alloc: Global, number: u64) -> Result<World, Fail> {
+    let file = guest_of(alloc, number)?;
+    let image = read_image(alloc, &file)?;
+    let world = World::boot(alloc, &image, &config_of(HeapKind::Oscar))?;
+    Ok(world)
 }
 
 /// Whether a call asked for memory.
@@ -84,6 +98,31 @@ fn no_malloc_is_refused(rt: HostRuntime) -> Result<(), Fail> {
             assert_eq!(rt; ran.given, ran.asked, "{number}");
             assert_eq!(rt; ran.ending, Some(Ending::Exit(0)), "{number}");
         }
+    }
+    Ok(())
+}
+
+#[test]
+fn each_event_has_a_meaning(rt: HostRuntime) -> Result<(), Fail> {
+    for number in 1..21 {
+        let Booted {
+            mut machine,
+            mut harts,
+        } = boot(rt.alloc(), number, HeapKind::Oscar)?;
+        if harts.is_empty() {
+            return Err("no hart".into());
+        }
+        let mut world = boot_world(rt.alloc(), number)?;
+        let ended = run_judged(
+            rt.alloc(),
+            &mut machine,
+            &mut harts,
+            &mut world,
+            1,
+            10_000_000,
+        )?;
+        assert_eq!(rt; ended.error, None, "{number}");
+        assert_eq!(rt; world.status(), Some(0), "{number}");
     }
     Ok(())
 }

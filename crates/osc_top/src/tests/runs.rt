@@ -25,7 +25,7 @@ pub fn seven() -> [u32; 3] {
 }
 
 /// Stores into an object of 24 bytes, loads it, frees it, and ends with the answer.
-fn uses() -> [u32; 10] {
+pub fn uses() -> [u32; 10] {
     [
         addi(A0, ZERO, 24),
         number(3),

@@ -158,6 +158,8 @@ pub enum Match {
     Whole,
     /// It begins with this text.
     Front,
+    /// It ends with this text.
+    End,
     /// It has this text somewhere.
     Part,
 }
@@ -188,6 +190,7 @@ fn is_wanted(err: &[u8], wanted: &str, matched: Match) -> bool {
     match matched {
         Match::Whole => err == wanted.as_bytes(),
         Match::Front => err.starts_with(wanted.as_bytes()),
+        Match::End => err.ends_with(wanted.as_bytes()),
         Match::Part => holds(err, wanted.as_bytes()),
     }
 }

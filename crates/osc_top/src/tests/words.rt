@@ -13,7 +13,7 @@ static REFUSED: [(&str, &str); 14] = [
     ("oscar --help", "oscar: usage: words\n"),
     ("oscar --mode seed --mode seed", "oscar: usage: words\n"),
     ("oscar --harts 9 --frames 1", "oscar: usage: --harts\n"),
-    ("oscar --mode object --heap plain", "oscar: usage: --mode\n"),
+    ("oscar --mode object --heap plain", "oscar: usage: --heap\n"),
     ("oscar --mode run", "oscar: usage: --mode\n"),
     ("oscar --heap other", "oscar: usage: --heap\n"),
     ("oscar --levels 5", "oscar: usage: --levels\n"),

@@ -10,4 +10,4 @@ returns-in_err-write_reports-clause-part g c =
 
 pub returns-clause-part : goal.returns-clause-part
 returns-clause-part g c =
-    OnErr-then _ _ _ _ _ _ (rw c.reports.ensures at c.in_ok-write_reports.ensures.all) c.write_summary.ensures.part
+    OnErr-then _ _ _ _ _ _ (rw c.reports.ensures at c.in_ok-write_reports.ensures.all) c.write_mode.ensures.part
