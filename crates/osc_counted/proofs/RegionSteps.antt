@@ -339,7 +339,7 @@ pub steps_keep_regions : StepsKeepRegions
 steps_keep_regions words old new shows fits step told h = step-keeps RegionsTold regions-keep words old new shows fits step told h
 
 -- ---- runs
-none-shared : (words : List ℕ) (k : KernelState) (pid f : ℕ) (q : Process) → KernelFits words k → ((g : ℕ) → slice_index k.regions g ≡ 0) → process_at k pid ≡ Some q → among f (shared_frames q.space.tables) ≡ 0
+pub none-shared : (words : List ℕ) (k : KernelState) (pid f : ℕ) (q : Process) → KernelFits words k → ((g : ℕ) → slice_index k.regions g ≡ 0) → process_at k pid ≡ Some q → among f (shared_frames q.space.tables) ≡ 0
 none-shared words k pid f q fits none at =
     let held = fits.memory.holders f in let z = none f in let one = one_within (shared_by f) k.processes pid q at in omega (arith, held, z, one)
 

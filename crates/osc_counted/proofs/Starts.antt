@@ -64,11 +64,11 @@ page_count n m (x ∷ ms) e = go (nat_lt x.number n) (page_count n m ms e)
     go false later = ap (λ c. length (cond c ((record { number = n; mapping = m }) ∷ filter (λ (y : Mapped). is_image_or_stack y.number) (x ∷ ms)) (filter (λ (y : Mapped). is_image_or_stack y.number) (x ∷ ms)))) e
 
 -- ---- the page itself
-record LaidIn (p : OpenPage) (d e : Changed) : Type 0 where
-  tables : e.tables.tables ≡ d.tables.tables
-  top : e.tables.top ≡ d.tables.top
-  free : free_count d.free ≤ suc (free_count e.free)
-  pages : (q : ℕ) → suc p.page ≤ q → mapping_at e.tables.pages q ≡ mapping_at d.tables.pages q
+pub record LaidIn (p : OpenPage) (d e : Changed) : Type 0 where
+  pub tables : e.tables.tables ≡ d.tables.tables
+  pub top : e.tables.top ≡ d.tables.top
+  pub free : free_count d.free ≤ suc (free_count e.free)
+  pub pages : (q : ℕ) → suc p.page ≤ q → mapping_at e.tables.pages q ≡ mapping_at d.tables.pages q
 
 put : (p : OpenPage) (g : ℕ) (m : Mapping) (t : Option ℕ) (d : Changed) → LaidIn p d (leaf_put p.page m t (record d { free = slice_set d.free g false }))
 put p g m None d = record { tables = refl; top = refl; free = one_fewer d.free g; pages = λ q l. refl }
@@ -94,23 +94,23 @@ laid-more p (Some g) d e l h i = go (frame_of d.tables.tables 0 (p.page / 512)) 
     go (Some t) h = page_count p.page (record { frame = g; bits = leaf_of_page p.bits }) d.tables.pages i
 
 -- its tables
-record LinkedIn (n : ℕ) (c d : Changed) : Type 0 where
-  root : root_of d.tables ≡ root_of c.tables
-  top : d.tables.top ≡ c.tables.top
-  taken : free_count d.free + need c.tables n 1 ≡ free_count c.free
+pub record LinkedIn (n : ℕ) (c d : Changed) : Type 0 where
+  pub root : root_of d.tables ≡ root_of c.tables
+  pub top : d.tables.top ≡ c.tables.top
+  pub taken : free_count d.free + need c.tables n 1 ≡ free_count c.free
 
 links_in : (n : ℕ) (m : Mapping) (t : Option ℕ) (c d : Changed) → MapsPage n m c (leaf_put n m t d) → LinkedIn n c d
 links_in n m None c d a = record { root = a.root; top = a.top; taken = a.taken }
 links_in n m (Some t) c d a = record { root = a.root; top = a.top; taken = a.taken }
 
 -- ---- pages that can be laid one after another
-record CanLayThese (ps : List OpenPage) (c : Changed) : Type 0 where
-  low : ℕ
-  pages : Ascend low ps
-  unmapped : (q : ℕ) → low ≤ q → mapping_at c.tables.pages q ≡ None
-  root : is_some (root_of c.tables) ≡ true
-  levels : 2 ≤ c.tables.top
-  enough : length ps + lacking c.tables.tables c.tables.top (map number ps) ≤ free_count c.free
+pub record CanLayThese (ps : List OpenPage) (c : Changed) : Type 0 where
+  pub low : ℕ
+  pub pages : Ascend low ps
+  pub unmapped : (q : ℕ) → low ≤ q → mapping_at c.tables.pages q ≡ None
+  pub root : is_some (root_of c.tables) ≡ true
+  pub levels : 2 ≤ c.tables.top
+  pub enough : length ps + lacking c.tables.tables c.tables.top (map number ps) ≤ free_count c.free
 
 module _ (p : OpenPage) (ps : List OpenPage) (c : Changed) (can : CanLayThese (p ∷ ps) c) where
   abbrev n : ℕ
@@ -119,7 +119,7 @@ module _ (p : OpenPage) (ps : List OpenPage) (c : Changed) (can : CanLayThese (p
   abbrev top : ℕ
   top = c.tables.top
 
-  abbrev linked_all : Changed
+  abbrev pub linked_all : Changed
   linked_all = link_all top n c
 
   small : n < 512 ^ suc top
@@ -140,7 +140,7 @@ module _ (p : OpenPage) (ps : List OpenPage) (c : Changed) (can : CanLayThese (p
   maps : MapsPage n m c (map_page n m c)
   maps = mapping_takes_need n the_root.0 m c the_root.1 small enough_now
 
-  linked : LinkedIn n c linked_all
+  pub linked : LinkedIn n c linked_all
   linked = links_in n m (frame_of linked_all.tables.tables 0 (n / 512)) c linked_all maps
 
   -- its leaf table was linked
@@ -157,16 +157,16 @@ module _ (p : OpenPage) (ps : List OpenPage) (c : Changed) (can : CanLayThese (p
       laid-more p (position (λ b. b) linked_all.free) linked_all refl (let a = least in let b = linked.taken in omega (arith, a, b)) no_leaf can.pages.1
       ∙ ap (λ ms. suc (image_count ms)) (link_all-pages top n c)
 
-  its : LaidIn p linked_all (lay p linked_all)
+  pub its : LaidIn p linked_all (lay p linked_all)
   its = lays_in p (position (λ b. b) linked_all.free) linked_all
 
-  grown : Grown top n c.tables.tables linked_all.tables.tables
+  pub grown : Grown top n c.tables.tables linked_all.tables.tables
   grown = link_all-grown top n c the_root.0 (ap (frame_of c.tables.tables top) (piece-top (suc top) n small) ∙ the_root.1) enough_now
 
   lacks : lacking c.tables.tables top (n ∷ map number ps) ≡ need c.tables n 1 + lacking linked_all.tables.tables top (map number ps)
   lacks = lacking_less top top n (map number ps) c.tables.tables linked_all.tables.tables (omega arith) grown
 
-  others_can : CanLayThese ps (lay p linked_all)
+  pub others_can : CanLayThese ps (lay p linked_all)
   others_can = record {
     low = suc n;
     pages = can.pages.3;
@@ -221,10 +221,10 @@ count_is : (levels : ℕ) (image : Image) → needed_frames levels image ≡ len
 unfolding needed_frames
 count_is levels image = refl
 
-numbers : (image : Image) → map number (all_pages (image_pages image)) ≡ pages image ++ stack_pages
+pub numbers : (image : Image) → map number (all_pages (image_pages image)) ≡ pages image ++ stack_pages
 numbers image = map-append number (image_pages image) the_stack ∙ ap (λ (xs : List ℕ). xs ++ stack_pages) (image_numbers image)
 
-start_can : (image : Image) (config : Config) → Ranges config → ((page : ℕ) → page < 16 → bits_at image page ≡ None) → needed_frames config.levels image ≤ config.frames → CanLayThese (all_pages (image_pages image)) (rooted config)
+pub start_can : (image : Image) (config : Config) → Ranges config → ((page : ℕ) → page < 16 → bits_at image page ≡ None) → needed_frames config.levels image ≤ config.frames → CanLayThese (all_pages (image_pages image)) (rooted config)
 start_can image config ok low fits = record {
   low = 0;
   pages = image_ascends image low the_stack (from_lower 0x100000 0x1000F0 the_stack (omega arith) (stack_ascends 0x1000F0 16 (omega arith) (omega arith) (omega arith)));

@@ -8,3 +8,6 @@ pub mod ShareRows
 pub mod AllTold
 pub mod CallRows
 pub mod TableSteps
+pub mod PlainNeeds
+pub mod StartTables
+pub mod TableRuns
