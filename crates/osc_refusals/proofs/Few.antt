@@ -24,7 +24,7 @@ shared-few s free fits =
     let xs = shared_frames s.tables in
     let same = length-mapped frame_of_page (shared_pages s.tables) in
     let count = given-count xs free (once_apart xs (λ f. (let o = held_once s free f fits in omega (arith, o))))
-        (all_taken free xs (λ f l. held_taken s free f fits (omega (arith, l)))) in
+    (all_taken free xs (λ f l. held_taken s free f fits (omega (arith, l)))) in
     let few = free_count-le (set_free true xs free) in
     let size = given_length xs free in
     omega (arith, same, count, few, size)

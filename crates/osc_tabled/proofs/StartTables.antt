@@ -109,11 +109,11 @@ root-has config = record {
   above = λ level n more. root (config.levels - 1 == level) (0 == n);
 }
   where
-    alone : (level n : ℕ) (b : Bool) → b ≡ false → is_some (cond (b && (0 == n)) (Some {A = ℕ} 0) None) ≡ false
+    alone : (level n : ℕ) (b : Bool) → b ≡ false → is_some (cond {A = Option ℕ} (b && (0 == n)) (Some 0) None) ≡ false
     alone level n true e = absurd (let z : ⊥ = grind (arith, e) in z)
     alone level n false e = refl
 
-    root : (a b : Bool) → is_some (cond (a && b) (Some {A = ℕ} 0) None) ≡ (a && b)
+    root : (a b : Bool) → is_some (cond {A = Option ℕ} (a && b) (Some 0) None) ≡ (a && b)
     root true true = refl
     root true false = refl
     root false b = refl

@@ -54,5 +54,5 @@ starts-fit image config some tabled =
 pub runs_fit_tables : RunsFitTables
 runs_fit_tables file image config picks k valid taken enough has =
     let w = fit-on (pages image) picks (first_ran image config) (started-both file image config valid taken enough)
-        (starts-fit image config (let r = ranges config valid in let l = r.harts in omega (arith, l)) (starts_fit_tables file image config valid taken enough)) in
+    (starts-fit image config (let r = ranges config valid in let l = r.harts in omega (arith, l)) (starts_fit_tables file image config valid taken enough)) in
     subst (TablesFit (pages image)) (the-kernel _ w.kernel k w.has has) w.tabled
