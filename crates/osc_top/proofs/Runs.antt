@@ -60,7 +60,7 @@ guest-status (Some (ending.Exit status)) fits = fits
 
 -- ---- what is due for a run that was made, by how it ended
 -- the picks that a task makes from a start, and where they lead
-abbrev picks_of : Task → State → List ℕ
+abbrev pub picks_of : Task → State → List ℕ
 picks_of task start = picks_made start task.seed task.picks
 
 pub due-over : (judged : Bool) (task : Task) (image : Image) (start s : State) (picks : ℕ) (said : Option Verdict)
@@ -92,3 +92,22 @@ pub ends-guest : (task : Task) (start s : State) → ((picks : List ℕ) → End
     → HasGuestStatus (outcome_of (ending_of s))
 ends-guest task start s fits is =
     guest-status (ending_of s) (subst (λ (t : State). IfSome (ending_of t) IsEnding) (sym is) (fits (picks_of task start)).ending)
+
+-- ---- a run whose harts came in and went out as a vector
+pub ran-over : (judged : Bool) (task : Task) (image : Image) (start before s after : State) (picks : ℕ) (said : Option Verdict) → before ≡ start → after ≡ s
+    → s ≡ (run before (picks_of task before)).state → end_after (machine_over s) (length (picks_of task before)) ≡ Over picks
+    → said ≡ judgement judged image task.config (run before (picks_of task before)).commits
+    → over_due picks after said ≡ seeded_due judged task image start
+ran-over judged task image start before s after picks said e f is ends judges =
+    ap (λ (t : State). over_due picks t said) f ∙ due-over judged task image before s picks said is ends judges ∙ ap (seeded_due judged task image) e
+
+pub ran-spent : (judged : Bool) (task : Task) (image : Image) (start before s : State) → before ≡ start
+    → s ≡ (run before (picks_of task before)).state → end_after (machine_over s) (length (picks_of task before)) ≡ Spent
+    → refused (outcome.Spent task.picks) ≡ seeded_due judged task image start
+ran-spent judged task image start before s e is ends = due-spent judged task image before s is ends ∙ ap (seeded_due judged task image) e
+
+pub ran-guest : (task : Task) (start before s after : State) → ((picks : List ℕ) → EndFits (run start picks).state) → before ≡ start → after ≡ s
+    → s ≡ (run before (picks_of task before)).state → HasGuestStatus (outcome_of (ending_of after))
+ran-guest task start before s after fits e f is =
+    subst (λ (t : State). HasGuestStatus (outcome_of (ending_of t))) (sym f)
+    (ends-guest task before s (λ picks. subst (λ (t : State). EndFits (run t picks).state) (sym e) (fits picks)) is)

@@ -5,5 +5,5 @@ use Rattle.osc_top.proofs.lines.append_verdict.Goals as goal
 
 pub returns-in-Error-clause-after : goal.returns-in-Error-clause-after
 returns-in-Error-clause-after c =
-    rw (c.text-2.ensures.after, c.text-in-Error.ensures.after, c.decimal.ensures.after, c.as_bytes.ensures.value, c.object_text.ensures.text, c.in-Error.is)
+    rw (c.text-in-Error-2.ensures.after, c.text-in-Error.ensures.after, c.decimal.ensures.after, c.as_bytes.ensures.value, c.object_text.ensures.text, c.in-Error.is)
     (all_appended c.args.into.now (verdict_text (Error c.in-Error.error)))
