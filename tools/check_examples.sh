@@ -43,6 +43,22 @@ while read -r run image status words; do
     differs=$(compare "$run" "$image" "$status" "${words[@]}")
     count "$run" "$differs"
 done < runs.txt
+# judge IMAGE VERDICT: prints what differs in mode object from the image's run without words and this verdict
+judge() {
+    local image=$1 wanted status
+    wanted=$(sed -n "s|^$image $image \([0-9]*\)\$|\1|p" runs.txt)
+    timeout 60 "$program" --mode object < "$image.elf" > "$work/out" 2> "$work/err"
+    status=$?
+    [ "$status" -eq "$wanted" ] || echo "status $status, and not $wanted"
+    cmp "$work/out" "$image.stdout" 2>&1
+    { cat "$image.stderr" && echo "object: $2"; } | diff - "$work/err" 2>&1
+}
+
+while read -r image verdict; do
+    [[ $image != "" && $image != "#" ]] || continue
+    count "$image, judged" "$(judge "$image" "$verdict")"
+done < objects.txt
+
 for image in *.elf bugs/*.elf; do
     grep -q " ${image%.elf} [0-9]" runs.txt && continue
     echo "runs.txt lacks $image"
