@@ -51,7 +51,7 @@ pub record Laid (place : ℕ → ℕ) (objects : List Object) : Type 0 where
 -- the plain bytes are those of image, stack and live objects; each live object has a held block and its
 -- size, and each held block is at a slot
 pub record Mirrors (frames : ℕ) (place : ℕ → ℕ) (memory : Memory) (flat : Flat) : Type 0 where
-  pub frames : flat.frames ≡ frames
+  pub machine : flat.frames ≡ frames
   pub pages : (n i : ℕ) (page : Page) (b : Byte) → memory_page memory.pages n ≡ Some page → slice_get page.bytes i ≡ Some b
       → flat.bytes (4096 * n + i) ≡ shown_byte place b
   pub low : (n : ℕ) (page : Page) → memory_page memory.pages n ≡ Some page → n < first_shared_page

@@ -1,0 +1,13 @@
+use Rattle.std.proofs.Common.{◌≡◌, ℕ}
+use Rattle.osc_means.proofs.Operations.{taken-shown}
+use Rattle.osc_means.proofs.Bytes.{low-bytes}
+use Rattle.osc_means.proofs.laws.plain_heap_agrees.Goals as goal
+
+pub returns-clause-events : goal.returns-clause-events
+returns-clause-events c = ?
+
+pub returns-clause-runs : goal.returns-clause-runs
+returns-clause-runs c = ?
+
+pub returns-clause-same : goal.returns-clause-same
+returns-clause-same c = ?
