@@ -1,2 +1,4 @@
 pub mod Operations
 pub mod Bytes
+pub mod Rows
+pub mod Reading

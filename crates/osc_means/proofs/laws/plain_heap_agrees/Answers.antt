@@ -1,6 +1,7 @@
 use Rattle.std.proofs.Common.{◌≡◌, ℕ}
 use Rattle.osc_means.proofs.Operations.{taken-shown}
 use Rattle.osc_means.proofs.Bytes.{low-bytes}
+use Rattle.osc_means.proofs.Reading.{value-shown}
 use Rattle.osc_means.proofs.laws.plain_heap_agrees.Goals as goal
 
 pub returns-clause-events : goal.returns-clause-events
