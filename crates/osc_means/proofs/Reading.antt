@@ -39,7 +39,7 @@ pub record Paired (frames : ℕ) (place : ℕ → ℕ → ℕ) (turn : WorldTurn
   pub there : slice_get plain.processes turn.pid ≡ Some y
   pub limit : frames ≤ 4096
 
-pub plain_turn : (ℕ → ℕ → ℕ) → WorldTurn → Plain → Process Flat → PlainTurn
+abbrev pub plain_turn : (ℕ → ℕ → ℕ) → WorldTurn → Plain → Process Flat → PlainTurn
 plain_turn place turn plain y =
     record {
       state = plain;
@@ -164,7 +164,6 @@ own-byte turn a e = rw e refl
 byte-shown : (frames : ℕ) (place : ℕ → ℕ → ℕ) (turn : WorldTurn) (plain : Plain) (y : Process Flat) (w : ℕ) (at : Place) (a i : ℕ) (b : Byte) → Paired frames place turn plain y
     → Reached (place turn.pid) turn w at a → i < w → slice_get (area_bytes turn.state.shared turn.process.memory at.area) (at.offset + i) ≡ Some b
     → plain_byte (plain_turn place turn plain y) (a + i) ≡ shown_byte (place turn.pid) b
-unfolding plain_turn
 byte-shown frames place turn plain y w at a i b pair r l e = by at.area at.offset r.there r.fits e
   where
     m : Mirrored frames (length turn.state.shared) (place turn.pid) turn.process y

@@ -2,6 +2,8 @@ use Rattle.std.proofs.Common.{◌≡◌, ℕ}
 use Rattle.osc_means.proofs.Operations.{taken-shown}
 use Rattle.osc_means.proofs.Bytes.{low-bytes}
 use Rattle.osc_means.proofs.Reading.{value-shown}
+use Rattle.osc_means.proofs.Memory.{stored-object}
+use Rattle.osc_means.proofs.Going.{put-shows}
 use Rattle.osc_means.proofs.laws.plain_heap_agrees.Goals as goal
 
 pub returns-clause-events : goal.returns-clause-events
