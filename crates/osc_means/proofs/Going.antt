@@ -198,4 +198,4 @@ put-shows frames place turn plain y put other pair alike = by put.at.area put.at
         let found : shared_page_at y.shared other.at ≡ Some page = rw m.shared s.0 in
         let here : with_memory turn turn.process.memory ≡ turn.state = ap (λ z. record (turn.state) { processes = z }) (set-own turn.state.processes turn.pid turn.process pair.in_turn.process) in
         let stored = shared-shows frames place turn.state plain (place turn.pid) page k put.bytes pair.shows (bare refl) in
-        rw (found, alike.bytes, s.1) (disturbed-shows frames place _ _ turn.pid put.at (subst (λ z. Shows frames place (record z { shared = changed_at (λ bytes. overlaid bytes k put.bytes) turn.state.shared page }) _) (sym here) stored))
+        rw (found, alike.bytes, s.1) (disturbed-shows frames place _ _ turn.pid put.at (subst (λ z. Shows frames place (record z { shared = changed_at (λ bytes. overlaid bytes k put.bytes) turn.state.shared page }) (record plain { shared = changed_at (λ bytes. overlaid bytes k (map (shown_byte (place turn.pid)) put.bytes)) plain.shared page })) (sym here) stored))

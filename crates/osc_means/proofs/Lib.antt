@@ -4,3 +4,7 @@ pub mod Rows
 pub mod Reading
 pub mod Memory
 pub mod Going
+pub mod Blocks
+pub mod Granting
+pub mod Forking
+pub mod Deeds

@@ -61,7 +61,7 @@ stored-byte f place bytes others start k i b l e old = by (nat_le k i) (nat_lt i
         let split : k + (i - k) ≡ i = omega arith in
         let there : slice_get others (i - k) ≡ Some b = sym (overlaid-inside bytes k others (i - k) l (omega arith)) ∙ ap (slice_get (overlaid bytes k others)) split ∙ e in
         let place_in : start + i - (start + k) ≡ i - k = omega arith in
-        inside f (start + k) (map (shown_byte place) others) (start + i) (omega arith) (omega arith)
+        inside f (start + k) (map (shown_byte place) others) (start + i) (omega arith) (omega (arith, size))
         ∙ ap (slice_index (map (shown_byte place) others)) place_in
         ∙ get_or_from_slice_get (map (shown_byte place) others) (i - k) (shown_byte place b) 0 (slice_get-map (shown_byte place) others (i - k) ∙ ap (option_map (shown_byte place)) there)
 
