@@ -3,7 +3,9 @@ use Rattle.std.proofs.Common.{ℕ, zero, suc, ◌≡◌, ◌≢◌, ◌<◌, ◌
 use Rattle.std.proofs.lemmas.Bool.Decides.{nat_tests}
 use Rattle.std.proofs.lemmas.List.{length-map, map-set}
 use Rattle.std.proofs.lemmas.Option.{slice_get-map, slice_get_within}
-use Rattle.std.specs.Prelude.{slice_set, nat_lt}
+use Rattle.std.specs.Prelude.{slice_set}
+use Rattle.std.specs.Option.{option_and_then}
+use Rattle.osc_isa.specs.Numbers.{wrapped}
 use Rattle.std.specs.List.{list_all, list_any, range_with_len}
 use Rattle.osc_word.specs.AddressMap.{first_shared_page, first_shadow_page}
 use Rattle.osc_word.specs.Environment.{answer_register}
@@ -18,15 +20,15 @@ use Rattle.osc_world.specs.World.{World, WorldTurn, WorldPut, WorldStep, WorldDe
 use Rattle.osc_world.specs.Calls.{world_kind, objects_after}
 use Rattle.osc_world.specs.PlainWorld.{Flat, Plain, PlainTurn, PlainStep, PlainDeed, BlockDeed, plain_kind, flat_after}
 use Rattle.osc_world.specs.Knows.{Knows, is_known, knows_memory, knows_hart, objects_by, is_spawned, is_spawner, has_spawner}
-use Rattle.osc_world.proofs.Lists.{slice_get-changed_at, length-changed_at}
+use Rattle.osc_world.proofs.Lists.{set-same}
 use Rattle.osc_world.proofs.Growth.{append-get}
 use Rattle.osc_world.proofs.Known.{all-at}
-use Rattle.osc_world.proofs.KnownDeeds.{own-memory, regs-known, own-spawner}
+use Rattle.osc_world.proofs.KnownDeeds.{own-memory, regs-known}
 use Rattle.osc_means.specs.Shown.{shown, shown_byte, shared_byte, Mirrors, Mirrored, Shows, Kept, given_at, shown_hart, shown_thread}
 use Rattle.osc_means.proofs.Rows.{map-map, map-same, map-append, map-replicate, pushed, pushed-last, some-same, stands}
 use Rattle.osc_means.proofs.Reading.{Paired, plain_turn, mirrored}
 use Rattle.osc_means.proofs.Going.{PutAlike, put-shows, process-shows, memory-shows, begins-shows, goes-shows, with_value-shown, set-cases, more-mirrored}
-use Rattle.osc_means.proofs.Forking.{forked}
+use Rattle.osc_means.proofs.Forking.{Agree, regs-agree, forked}
 
 -- ---- deeds that are alike
 
@@ -128,7 +130,7 @@ shares-shows frames place turn plain y count pair few = record {
       ];
     harts = base.harts;
     threads = base.threads;
-    count = base.count;
+    count = length-set plain.processes turn.pid then ∙ base.count ∙ sym (length-set turn.state.processes turn.pid now);
     processes = λ pid u v e f. elim (set-cases turn.state.processes turn.pid pid now u e) as (λ _. Mirrored frames more (place pid) u v) [
         inl s ↦ elim (set-cases plain.processes turn.pid pid then v f) as (λ _. Mirrored frames more (place pid) u v) [
             inl r ↦ rw (s.0, ← s.1, ← r.1) here
@@ -235,7 +237,7 @@ left-shown place pid value (t ∷ threads) (suc i) e = ap (λ z. shown_thread pl
 
 leaves-threads : (frames : ℕ) (place : ℕ → ℕ → ℕ) (turn : WorldTurn) (plain : Plain) (y : Process Flat) (value : Value) → Paired frames place turn plain y
     → left_by plain.threads turn.hart.thread (shown (place turn.pid) value) ≡ map (shown_thread place) (left_by turn.state.threads turn.hart.thread value)
-leaves-threads frames place turn plain y value pair = by turn.hart.thread (own-spawner turn pair.in_turn pair.knows)
+leaves-threads frames place turn plain y value pair = by turn.hart.thread (all-at (is_spawned turn.state.threads) turn.state.harts turn.number turn.hart pair.knows.spawned pair.in_turn.hart)
   where
     spawned : (t : Thread Value) (found : Option (Thread Value)) → is_spawner turn.hart.process found ≡ true → found ≡ Some t → t.spawner ≡ turn.pid
     spawned t None e f = absurd (cc)
@@ -265,3 +267,95 @@ leaves-shows frames place turn plain y value pair =
       harts = harts;
       threads = leaves-threads frames place turn plain y value pair;
     }
+
+-- ---- forks
+
+child-shows : (frames : ℕ) (place : ℕ → ℕ → ℕ) (turn : WorldTurn) (plain : Plain) (y : Process Flat) → Paired frames place turn plain y
+    → Agree (length turn.process.memory.objects) (place turn.pid) (place (length turn.state.processes)) → Shows frames place (with_child turn) (with_child (plain_turn place turn plain y))
+child-shows frames place turn plain y pair agree = record {
+    output = pair.shows.output; shared = pair.shows.shared; wide = pair.shows.wide; harts = pair.shows.harts; threads = pair.shows.threads;
+    count = length-append plain.processes (other ∷ []) ∙ ap (λ n. n + 1) pair.shows.count ∙ sym (length-append turn.state.processes (child ∷ []));
+    processes = λ pid u v e f. by pid u v (pid == length turn.state.processes) refl e f;
+  }
+  where
+    child : Process Memory
+    child = record { memory = turn.process.memory; shared = turn.process.shared; parent = Some turn.pid; status = None }
+
+    other : Process Flat
+    other = record { memory = y.memory; shared = y.shared; parent = Some turn.pid; status = None }
+
+    new : Mirrored frames (length turn.state.shared) (place (length turn.state.processes)) (record { memory = turn.process.memory; shared = turn.process.shared; parent = Some turn.pid; status = None })
+      (record { memory = y.memory; shared = y.shared; parent = Some turn.pid; status = None })
+    new =
+        let m = mirrored pair in
+        record {
+          memory = forked frames (place turn.pid) (place (length turn.state.processes)) turn.process.memory y.memory (own-memory turn pair.in_turn pair.knows) agree m.memory;
+          shared = m.shared; parent = refl; status = refl; few = m.few; regions = m.regions;
+        }
+
+    by : (pid : ℕ) (u : Process Memory) (v : Process Flat) (t : Bool) → (pid == length turn.state.processes) ≡ t
+        → slice_get (turn.state.processes ++ record { memory = turn.process.memory; shared = turn.process.shared; parent = Some turn.pid; status = None } ∷ []) pid ≡ Some u
+        → slice_get (plain.processes ++ record { memory = y.memory; shared = y.shared; parent = Some turn.pid; status = None } ∷ []) pid ≡ Some v
+        → Mirrored frames (length turn.state.shared) (place pid) u v
+    by pid u v true t e f =
+        let is : pid ≡ length turn.state.processes = grind (arith, nat_tests, t) in
+        let as_plain : pid ≡ length plain.processes = is ∙ sym pair.shows.count in
+        let x : record { memory = turn.process.memory; shared = turn.process.shared; parent = Some turn.pid; status = None } ≡ u = some-same _ u (sym (pushed-last turn.state.processes _) ∙ ap (slice_get (turn.state.processes ++ record { memory = turn.process.memory; shared = turn.process.shared; parent = Some turn.pid; status = None } ∷ [])) (sym is) ∙ e) in
+        let z : record { memory = y.memory; shared = y.shared; parent = Some turn.pid; status = None } ≡ v = some-same _ v (sym (pushed-last plain.processes _) ∙ ap (slice_get (plain.processes ++ record { memory = y.memory; shared = y.shared; parent = Some turn.pid; status = None } ∷ [])) (sym as_plain) ∙ f) in
+        rw (is, ← x, ← z) new
+    by pid u v false t e f =
+        let n : pid ≢ length turn.state.processes = grind (arith, nat_tests, t) in
+        let m : pid ≢ length plain.processes = (λ s. n (s ∙ pair.shows.count)) in
+        pair.shows.processes pid u v (pushed turn.state.processes _ u pid e n) (pushed plain.processes _ v pid f m)
+
+forks-shows : (frames : ℕ) (place : ℕ → ℕ → ℕ) (turn : WorldTurn) (plain : Plain) (y : Process Flat) (hart : ℕ) → Paired frames place turn plain y
+    → Kept place (state_after plain_kind (plain_turn place turn plain y) (Forks hart))
+    → Shows frames place (state_after world_kind turn (Forks hart)) (state_after plain_kind (plain_turn place turn plain y) (Forks hart))
+unfolding state_after
+forks-shows frames place turn plain y hart pair kept =
+    begins-shows frames place _ _ hart (child_hart Num turn) _
+      (answer-shows frames place turn plain y (with_child turn) (with_child (plain_turn place turn plain y)) (Num (length turn.state.processes)) _ pair (child-shows frames place turn plain y pair agree) pair.shows.count)
+      (ap (λ z. record { process = Some z; thread = None; regs = with_value (map (shown (place turn.pid)) turn.hart.regs) answer_register 0; pc = next turn.hart.pc; reservation = None }) pair.shows.count
+      ∙ ap (λ z. record { process = Some (length turn.state.processes); thread = None; regs = z; pc = next turn.hart.pc; reservation = None }) regs)
+  where
+    m : Mirrored frames (length turn.state.shared) (place turn.pid) turn.process y
+    m = mirrored pair
+
+    agree : Agree (length turn.process.memory.objects) (place turn.pid) (place (length turn.state.processes))
+    agree o l =
+        let count = m.memory.given in
+        let user = stands y.memory.given o (omega (arith, count)) in
+        let own = kept turn.pid o user.0 (ap (option_and_then (λ (p : Process Flat). slice_get p.memory.given o)) (append-get plain.processes (record { memory = y.memory; shared = y.shared; parent = Some turn.pid; status = None }) y turn.pid pair.there) ∙ user.1) in
+        let last : slice_get (plain.processes ++ record { memory = y.memory; shared = y.shared; parent = Some turn.pid; status = None } ∷ []) (length turn.state.processes) ≡ Some (record { memory = y.memory; shared = y.shared; parent = Some turn.pid; status = None })
+            = ap (slice_get (plain.processes ++ record { memory = y.memory; shared = y.shared; parent = Some turn.pid; status = None } ∷ [])) (sym pair.shows.count) ∙ pushed-last plain.processes _ in
+        let child = kept (length turn.state.processes) o user.0 (ap (option_and_then (λ (p : Process Flat). slice_get p.memory.given o)) last ∙ user.1) in
+        own ∙ sym child
+
+    regs : with_value (map (shown (place turn.pid)) turn.hart.regs) answer_register 0 ≡ map (shown (place (length turn.state.processes))) (with_value turn.hart.regs answer_register (Num 0))
+    regs = ap (λ z. with_value z answer_register 0) (regs-agree (place turn.pid) (place (length turn.state.processes)) (length turn.process.memory.objects) turn.hart.regs agree (regs-known turn pair.in_turn pair.knows))
+      ∙ with_value-shown (shown (place (length turn.state.processes))) turn.hart.regs answer_register (Num 0)
+
+-- ---- all deeds
+
+set-there : {X : Type 0} (xs : List X) (i : ℕ) (x y : X) → slice_get xs i ≡ Some x → slice_get (slice_set xs i y) i ≡ Some y
+set-there xs i x y e = set-same xs i y (slice_get_within xs i x e)
+
+pub after-shows : (frames : ℕ) (place : ℕ → ℕ → ℕ) (turn : WorldTurn) (plain : Plain) (y : Process Flat) (deed : WorldDeed) (other : PlainDeed) → Paired frames place turn plain y
+    → Alike frames place turn plain y deed other → Kept place (state_after plain_kind (plain_turn place turn plain y) other)
+    → Shows frames place (state_after world_kind turn deed) (state_after plain_kind (plain_turn place turn plain y) other)
+unfolding Alike state_after
+after-shows frames place turn plain y (Steps step) (Steps other) pair a k = steps-shows frames place turn plain y step other pair a
+after-shows frames place turn plain y (Heaps deed value) (Heaps other answer) pair a k =
+    let there = set-there plain.processes turn.pid y (record y { memory = flat_after (plain_turn place turn plain y) y.memory other }) pair.there in
+    let h = a (λ o user e. k turn.pid o user (ap (option_and_then (λ (p : Process Flat). slice_get p.memory.given o)) there ∙ e)) in
+    answer-shows frames place turn plain y _ _ value answer pair (memory-shows frames place turn plain y _ _ pair h.0) h.1
+after-shows frames place turn plain y (Writes bytes) (Writes others) pair a k =
+    rw a (answer-shows frames place turn plain y _ _ (Num (length bytes)) (length bytes) pair (output-shows frames place turn.state plain bytes pair.shows) refl)
+after-shows frames place turn plain y (Shares count) (Shares other) pair a k =
+    let m = mirrored pair in
+    rw a.0 (answer-shows frames place turn plain y _ _ (Num (shared_next turn.process)) (shared_next y) pair (shares-shows frames place turn plain y count pair a.1) (ap (λ z. wrapped (4096 * (first_shared_page + length z))) m.shared))
+after-shows frames place turn plain y (Forks hart) (Forks other) pair a k = rw a (forks-shows frames place turn plain y hart pair (subst (λ z. Kept place (state_after plain_kind (plain_turn place turn plain y) (Forks z))) a k))
+after-shows frames place turn plain y (Spawns hart pc sp arg) (Spawns other target stack given) pair a k = rw (a.0, a.1, a.2, a.3) (spawns-shows frames place turn plain y hart pc sp arg pair)
+after-shows frames place turn plain y (Exits status) (Exits other) pair a k = rw a (exits-shows frames place turn plain y status pair)
+after-shows frames place turn plain y (Leaves value) (Leaves other) pair a k = rw a (leaves-shows frames place turn plain y value pair)
+after-shows frames place turn plain y _ _ pair a k = absurd a

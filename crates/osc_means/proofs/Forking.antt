@@ -2,7 +2,10 @@
 use Rattle.std.proofs.Common.{ℕ, zero, suc, ◌≡◌, ◌≢◌, ◌<◌, ◌≤◌, ◌==◌, ◌+◌, ◌*◌, Bool, true, false, cond, ◌&&◌, List, [], ◌∷◌, ◌++◌, Option, Some, None, option_map, arith, refl, ap, sym, subst, ◌∙◌, ◌⊎◌, inl, inr, slice_get, length, map}
 use Rattle.std.proofs.lemmas.Bool.Decides.{nat_tests}
 use Rattle.std.proofs.lemmas.Option.{slice_get_within}
+use Rattle.std.specs.Prelude.{slice_index}
 use Rattle.std.specs.List.{list_all, find}
+use Rattle.byteorder.specs.Endian.{little_bytes}
+use Rattle.osc_isa.specs.Numbers.{wrapped}
 use Rattle.osc_world.specs.declared.Value.{Value}
 use Rattle.osc_world.specs.declared.Value.TheVariants.{Num, Ptr}
 use Rattle.osc_world.specs.declared.Byte.{Byte}
@@ -25,7 +28,7 @@ value-agrees f g count (Ptr o k) a e = let s : f o ≡ g o = a o (grind (arith, 
 
 byte-agrees : (f g : ℕ → ℕ) (count : ℕ) (b : Byte) → Agree count f g → is_known_byte count b ≡ true → shown_byte f b ≡ shown_byte g b
 byte-agrees f g count (Number n) a e = refl
-byte-agrees f g count (Part o k i) a e = let s : f o ≡ g o = a o (grind (arith, nat_tests, e)) in rw s refl
+byte-agrees f g count (Part o k i) a e = let s : f o ≡ g o = a o (grind (arith, nat_tests, e)) in ap (λ x. slice_index (little_bytes 8 (wrapped (x + k))) i) s
 
 pub regs-agree : (f g : ℕ → ℕ) (count : ℕ) (regs : List Value) → Agree count f g → list_all (is_known count) regs ≡ true → map (shown f) regs ≡ map (shown g) regs
 regs-agree f g count regs a e = map-same (shown f) (shown g) regs (λ i v h. value-agrees f g count v a (all-at (is_known count) regs i v e h))

@@ -130,7 +130,7 @@ disturbed-shows frames place now then pid at s = record {
   }
 
 -- what is known of other shared pages holds of as many
-more-mirrored : (frames count more : ℕ) (place : ℕ → ℕ) (x : Process Memory) (y : Process Flat) → count ≤ more → Mirrored frames count place x y → Mirrored frames more place x y
+pub more-mirrored : (frames count more : ℕ) (place : ℕ → ℕ) (x : Process Memory) (y : Process Flat) → count ≤ more → Mirrored frames count place x y → Mirrored frames more place x y
 more-mirrored frames count more place x y l m = record {
     memory = m.memory; shared = m.shared; parent = m.parent; status = m.status; few = m.few;
     regions = λ i page e. let b = m.regions i page e in omega arith;

@@ -1,5 +1,5 @@
 -- Grants and frees keep the plain bytes and blocks of a process those of its objects.
-use Rattle.std.proofs.Common.{ℕ, zero, suc, ◌≡◌, ◌≢◌, ◌<◌, ◌≤◌, ◌==◌, ◌+◌, ◌-◌, ◌*◌, Bool, true, false, cond, List, [], ◌∷◌, ◌++◌, Option, Some, None, option_map, arith, refl, ap, sym, subst, ◌∙◌, ◌⊎◌, inl, inr, slice_get, length, length-append, map, get_or}
+use Rattle.std.proofs.Common.{ℕ, zero, suc, ◌≡◌, ◌≢◌, ◌<◌, ◌≤◌, ◌==◌, ◌+◌, ◌-◌, ◌*◌, ◌%◌, Bool, true, false, cond, List, [], ◌∷◌, ◌++◌, Option, Some, None, option_map, arith, refl, ap, sym, subst, ◌∙◌, ◌⊎◌, inl, inr, slice_get, length, length-append, map, get_or}
 use Rattle.std.proofs.lemmas.Bool.Decides.{nat_tests}
 use Rattle.std.proofs.lemmas.List.{length-map}
 use Rattle.std.proofs.lemmas.Option.{slice_get-map, slice_get_within, get_or_from_slice_get}
@@ -81,7 +81,7 @@ pub record Grants (frames : ℕ) (place : ℕ → ℕ) (m : Memory) (user size :
   pub limit : frames ≤ 4096
   pub here : place (length m.objects) ≡ user
   pub block : IsPlaced frames (block_for user size)
-  pub user : 16 ≤ user
+  pub start : 16 ≤ user
   pub placed : (b : Block) → is_held held b ≡ true → IsPlaced frames b
   pub new : is_held held (block_for user size) ≡ true
   pub old : (o : ℕ) (bs : List Byte) → slice_get m.objects o ≡ Some (Live bs) → is_held held (block_for (place o) (length bs)) ≡ true
@@ -120,10 +120,10 @@ granted-mirrors frames place m z user size held bytes s g long = record {
     bounds = bounded frames (block_for user size) g.limit g.block
 
     above : 0x2000000010 ≤ user
-    above = let a = bounds.above in let u = g.user in omega arith
+    above = let a = bounds.above in let u = g.start in omega arith
 
     ends : user + size ≤ 0x4000000000
-    ends = let b = bounds.below in let u = g.user in let h = room_holds size in omega arith
+    ends = let b = bounds.below in let u = g.start in let h = room_holds size in omega arith
 
     old_at : (q : ℕ) (x : Object) → (q == length m.objects) ≡ false → slice_get (m.objects ++ Live bytes ∷ []) q ≡ Some x → slice_get m.objects q ≡ Some x
     old_at q x t e = pushed m.objects (Live bytes) x q e (let n : q ≢ length m.objects = grind (arith, nat_tests, t) in n)
