@@ -8,3 +8,4 @@ pub mod Blocks
 pub mod Granting
 pub mod Forking
 pub mod Deeds
+pub mod Offers
