@@ -9,3 +9,4 @@ pub mod Granting
 pub mod Forking
 pub mod Deeds
 pub mod Offers
+pub mod Steps

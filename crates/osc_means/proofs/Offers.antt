@@ -74,21 +74,21 @@ unfolding OffersAlike chosen
 offered-shows frames place turn plain y (Only deed) (Only other) choice.Plain now then pair a e f k = deed-shows frames place turn plain y deed other now then pair a e f k
 offered-shows frames place turn plain y (Only deed) (Only other) c now then pair a e f k = absurd (cc)
 offered-shows frames place turn plain y (Only deed) other c now then pair a e f k = absurd a
-offered-shows frames place turn plain y (Grants given refused) (Grants other no) choice.Given now then pair a e f k = meant-shows frames place turn plain y given other now then pair a.0 e f k
-offered-shows frames place turn plain y (Grants given refused) (Grants other no) choice.Refused now then pair a e f k = deed-shows frames place turn plain y refused no now then pair a.1 e f k
-offered-shows frames place turn plain y (Grants given refused) (Grants other no) c now then pair a e f k = absurd (cc)
+offered-shows frames place turn plain y (Grants given refused) (Grants other refusal) choice.Given now then pair a e f k = meant-shows frames place turn plain y given other now then pair a.0 e f k
+offered-shows frames place turn plain y (Grants given refused) (Grants other refusal) choice.Refused now then pair a e f k = deed-shows frames place turn plain y refused refusal now then pair a.1 e f k
+offered-shows frames place turn plain y (Grants given refused) (Grants other refusal) c now then pair a e f k = absurd (cc)
 offered-shows frames place turn plain y (Grants given refused) other c now then pair a e f k = absurd a
-offered-shows frames place turn plain y (Starts deed refused) (Starts other no) choice.Refused now then pair a e f k = deed-shows frames place turn plain y refused no now then pair a.1 e f k
-offered-shows frames place turn plain y (Starts deed refused) (Starts other no) (choice.Started h) now then pair a e f k = by (is_idle (slice_get turn.state.harts h)) e (subst (λ t. plain_done (plain_turn place turn plain y) (cond t (Goes (other h)) Unfit) ≡ Some then) (same-idle frames place turn plain y h pair) f)
+offered-shows frames place turn plain y (Starts deed refused) (Starts other refusal) choice.Refused now then pair a e f k = deed-shows frames place turn plain y refused refusal now then pair a.1 e f k
+offered-shows frames place turn plain y (Starts deed refused) (Starts other refusal) (choice.Started h) now then pair a e f k = by (is_idle (slice_get turn.state.harts h)) e (subst (λ t. plain_done (plain_turn place turn plain y) (cond t (Goes (other h)) Unfit) ≡ Some then) (same-idle frames place turn plain y h pair) f)
   where
     by : (t : Bool) → meaning_of turn (cond t (Goes (deed h)) Unfit) ≡ Goes now → plain_done (plain_turn place turn plain y) (cond t (Goes (other h)) Unfit) ≡ Some then → Shows frames place now then
     by true e f = deed-shows frames place turn plain y (deed h) (other h) now then pair (a.0 h) e f k
     by false e f = absurd (cc)
-offered-shows frames place turn plain y (Starts deed refused) (Starts other no) c now then pair a e f k = absurd (cc)
+offered-shows frames place turn plain y (Starts deed refused) (Starts other refusal) c now then pair a e f k = absurd (cc)
 offered-shows frames place turn plain y (Starts deed refused) other c now then pair a e f k = absurd a
-offered-shows frames place turn plain y (Conditional success failure) (Conditional other no) choice.Success now then pair a e f k = meant-shows frames place turn plain y success other now then pair a.0 e f k
-offered-shows frames place turn plain y (Conditional success failure) (Conditional other no) choice.Fail now then pair a e f k = deed-shows frames place turn plain y failure no now then pair a.1 e f k
-offered-shows frames place turn plain y (Conditional success failure) (Conditional other no) c now then pair a e f k = absurd (cc)
+offered-shows frames place turn plain y (Conditional success failure) (Conditional other refusal) choice.Success now then pair a e f k = meant-shows frames place turn plain y success other now then pair a.0 e f k
+offered-shows frames place turn plain y (Conditional success failure) (Conditional other refusal) choice.Fail now then pair a e f k = deed-shows frames place turn plain y failure refusal now then pair a.1 e f k
+offered-shows frames place turn plain y (Conditional success failure) (Conditional other refusal) c now then pair a e f k = absurd (cc)
 offered-shows frames place turn plain y (Conditional success failure) other c now then pair a e f k = absurd a
 offered-shows frames place turn plain y Never other choice.Plain now then pair a e f k = absurd (cc)
 offered-shows frames place turn plain y Never other choice.Given now then pair a e f k = absurd (cc)
