@@ -10,3 +10,4 @@ pub mod Forking
 pub mod Deeds
 pub mod Offers
 pub mod Steps
+pub mod Heaps
