@@ -11,3 +11,4 @@ pub mod Deeds
 pub mod Offers
 pub mod Steps
 pub mod Heaps
+pub mod Calls
