@@ -20,11 +20,11 @@ use Rattle.osc_world.specs.Values.{advanced, numbers_in}
 use Rattle.osc_world.specs.States.{Process, Thread}
 use Rattle.osc_world.specs.Deeds.{Writes, Exits, Leaves, Shares, Forks, Spawns, is_number, answers}
 use Rattle.osc_world.specs.Offers.{Meaning, Goes, Errs, Unfit, Only, Grants, Starts, Never, then_try, answers_if, thread_at, thread_value, joins, child_value, waits, forks, spawns, shares, write_count}
-use Rattle.osc_world.specs.World.{World, WorldTurn, Memory}
+use Rattle.osc_world.specs.World.{World, WorldTurn, WorldOffer, Memory}
 use Rattle.osc_world.specs.Accesses.{is_aligned, reached_place, bytes_at, loaded_byte, row_at}
 use Rattle.osc_world.specs.Instructions.{register_of}
 use Rattle.osc_world.specs.Calls.{with_number, write_deed, only_deed, serves, calls}
-use Rattle.osc_world.specs.PlainWorld.{Flat, Plain, PlainTurn, NoAddress, plain_row, plain_byte, plain_shares, plain_serves}
+use Rattle.osc_world.specs.PlainWorld.{Flat, Plain, PlainTurn, PlainOffer, NoAddress, plain_row, plain_byte, plain_shares, plain_serves}
 use Rattle.osc_means.specs.Shown.{shown, shown_byte, shown_thread, Mirrored, Shows}
 use Rattle.osc_means.proofs.Bytes.{numbers-shown}
 use Rattle.osc_means.proofs.Rows.{map-append, stands, some-same}
@@ -153,3 +153,84 @@ shares-alike frames place turn plain y count pair = by (nat_lt 0 count) (nat_lt 
 
 -- ---- all calls
 
+
+-- a call whose argument has to be a number
+numbered : (frames : ℕ) (place : ℕ → ℕ → ℕ) (turn : WorldTurn) (plain : Plain) (y : Process Flat) (v : Value) (f : ℕ → WorldOffer) (g : ℕ → PlainOffer)
+    → ((n : ℕ) → OffersAlike frames place turn plain y (f n) (g n)) → ResultsAlike frames place turn plain y (with_number v f) (g (shown (place turn.pid) v))
+unfolding ResultsAlike
+numbered frames place turn plain y (Num n) f g h = h n
+numbered frames place turn plain y (Ptr o k) f g h = tt
+
+exits-alike : (frames : ℕ) (place : ℕ → ℕ → ℕ) (turn : WorldTurn) (plain : Plain) (y : Process Flat) (n : ℕ) → OffersAlike frames place turn plain y (Only (Exits n)) (Only (Exits n))
+unfolding OffersAlike Alike
+exits-alike frames place turn plain y n = refl
+
+done-alike : (frames : ℕ) (place : ℕ → ℕ → ℕ) (turn : WorldTurn) (plain : Plain) (y : Process Flat) (v : Value) → OffersAlike frames place turn plain y (Only (Leaves v)) (Only (Leaves (shown (place turn.pid) v)))
+unfolding OffersAlike Alike
+done-alike frames place turn plain y v = refl
+
+forks-alike : (frames : ℕ) (place : ℕ → ℕ → ℕ) (turn : WorldTurn) (plain : Plain) (y : Process Flat) → OffersAlike frames place turn plain y (forks Num turn) (forks (λ n. n) (plain_turn place turn plain y))
+unfolding OffersAlike Alike
+forks-alike frames place turn plain y = (λ hart. refl, record { put = tt; rd = refl; value = refl; pc = refl; reservation = refl })
+
+spawns-alike : (frames : ℕ) (place : ℕ → ℕ → ℕ) (turn : WorldTurn) (plain : Plain) (y : Process Flat) (sp arg : Value) (n : ℕ)
+    → OffersAlike frames place turn plain y (spawns Num turn n sp arg) (spawns (λ n. n) (plain_turn place turn plain y) n (shown (place turn.pid) sp) (shown (place turn.pid) arg))
+unfolding OffersAlike Alike
+spawns-alike frames place turn plain y sp arg n = ((λ hart. (refl, refl, refl, refl)), record { put = tt; rd = refl; value = refl; pc = refl; reservation = refl })
+
+given-shares : (frames : ℕ) (place : ℕ → ℕ → ℕ) (turn : WorldTurn) (plain : Plain) (y : Process Flat) (n : ℕ) → Paired frames place turn plain y
+    → OffersAlike frames place turn plain y (Grants (shares n) (answers turn (Num 0))) (Grants (plain_shares (plain_turn place turn plain y) n) (answers (plain_turn place turn plain y) 0))
+unfolding OffersAlike
+given-shares frames place turn plain y n pair = (shares-alike frames place turn plain y n pair, answers-alike frames place turn plain y (Num 0) 0 refl)
+
+writes-alike : (frames : ℕ) (place : ℕ → ℕ → ℕ) (turn : WorldTurn) (plain : Plain) (y : Process Flat) (v asked : Value) → Paired frames place turn plain y
+    → ResultsAlike frames place turn plain y (then_try (with_number asked (write_deed turn v)) only_deed)
+        (Only (Writes (plain_row (plain_turn place turn plain y) (write_count plain (shown (place turn.pid) asked)) (shown (place turn.pid) v))))
+unfolding ResultsAlike
+writes-alike frames place turn plain y v (Num n) pair = write-alike frames place turn plain y v n pair
+writes-alike frames place turn plain y v (Ptr o k) pair = tt
+
+-- the call of a number, with its arguments in three registers
+serves-alike : (frames : ℕ) (place : ℕ → ℕ → ℕ) (turn : WorldTurn) (plain : Plain) (y : Process Flat) (n r s t : ℕ) → Paired frames place turn plain y
+    → ResultsAlike frames place turn plain y (serves turn (call_numbered n r s t))
+        (plain_serves (plain_turn place turn plain y) (call_numbered n (shown (place turn.pid) (register_of turn r)) (shown (place turn.pid) (register_of turn s)) (shown (place turn.pid) (register_of turn t))))
+unfolding serves plain_serves ResultsAlike
+serves-alike frames place turn plain y n r s t pair = by (n == 1) (n == 2) (n == 3) (n == 4) (n == 5) (n == 6) (n == 7) (n == 8) (n == 9) (n == 10) (n == 11)
+  where
+    by : (a b c d e g h i j k l : Bool)
+        → ResultsAlike frames place turn plain y
+          (serves turn (cond a (Exit r) (cond b (Write r s) (cond c (Malloc r) (cond d (Free r) (cond e (Realloc r s) (cond g Fork (cond h (Spawn r s t) (cond i (Join r) (cond j (Done r) (cond k (Share r) (cond l (Wait r) (Unknown n)))))))))))))
+          (plain_serves (plain_turn place turn plain y)
+            (let u = shown (place turn.pid) (register_of turn r) in let v = shown (place turn.pid) (register_of turn s) in let w = shown (place turn.pid) (register_of turn t) in
+            cond a (Exit u) (cond b (Write u v) (cond c (Malloc u) (cond d (Free u) (cond e (Realloc u v) (cond g Fork (cond h (Spawn u v w) (cond i (Join u) (cond j (Done u) (cond k (Share u) (cond l (Wait u) (Unknown n)))))))))))))
+    by true b c d e g h i j k l = numbered frames place turn plain y (register_of turn r) (λ m. Only (Exits m)) (λ m. Only (Exits m)) (exits-alike frames place turn plain y)
+    by false true c d e g h i j k l = writes-alike frames place turn plain y (register_of turn r) (register_of turn s) pair
+    by false false true d e g h i j k l = malloc-alike frames place turn plain y (register_of turn r) pair
+    by false false false true e g h i j k l = free-alike frames place turn plain y (register_of turn r) pair
+    by false false false false true g h i j k l = realloc-alike frames place turn plain y (register_of turn r) (register_of turn s) pair
+    by false false false false false true h i j k l = forks-alike frames place turn plain y
+    by false false false false false false true i j k l =
+        numbered frames place turn plain y (register_of turn r) (λ m. spawns Num turn m (register_of turn s) (register_of turn t))
+        (λ m. spawns (λ z. z) (plain_turn place turn plain y) m (shown (place turn.pid) (register_of turn s)) (shown (place turn.pid) (register_of turn t)))
+        (spawns-alike frames place turn plain y (register_of turn s) (register_of turn t))
+    by false false false false false false false true j k l =
+        numbered frames place turn plain y (register_of turn r) (joins Num turn) (joins (λ z. z) (plain_turn place turn plain y)) (λ m. joins-alike frames place turn plain y m pair)
+    by false false false false false false false false true k l = done-alike frames place turn plain y (register_of turn r)
+    by false false false false false false false false false true l =
+        numbered frames place turn plain y (register_of turn r) (λ m. Grants (shares m) (answers turn (Num 0))) (λ m. Grants (plain_shares (plain_turn place turn plain y) m) (answers (plain_turn place turn plain y) 0))
+        (λ m. given-shares frames place turn plain y m pair)
+    by false false false false false false false false false false true =
+        numbered frames place turn plain y (register_of turn r) (waits Num turn) (waits (λ z. z) (plain_turn place turn plain y)) (λ m. waits-alike frames place turn plain y m pair)
+    by false false false false false false false false false false false = tt
+
+pub calls-alike : (frames : ℕ) (place : ℕ → ℕ → ℕ) (turn : WorldTurn) (plain : Plain) (y : Process Flat) → Paired frames place turn plain y
+    → ResultsAlike frames place turn plain y (calls turn) (plain_serves (plain_turn place turn plain y) (call_of (map (shown (place turn.pid)) turn.hart.regs)))
+unfolding ResultsAlike call_of
+calls-alike frames place turn plain y pair =
+    rw (register-shown (place turn.pid) turn.hart.regs 17, register-shown (place turn.pid) turn.hart.regs 10, register-shown (place turn.pid) turn.hart.regs 11, register-shown (place turn.pid) turn.hart.regs 12)
+      (by (register_of turn 17))
+  where
+    by : (v : Value) → ResultsAlike frames place turn plain y (then_try (with_number v (λ number. call_numbered number 10 11 12)) (serves turn))
+        (plain_serves (plain_turn place turn plain y) (call_numbered (shown (place turn.pid) v) (shown (place turn.pid) (register_of turn 10)) (shown (place turn.pid) (register_of turn 11)) (shown (place turn.pid) (register_of turn 12))))
+    by (Num n) = serves-alike frames place turn plain y n 10 11 12 pair
+    by (Ptr o k) = tt

@@ -12,3 +12,5 @@ pub mod Offers
 pub mod Steps
 pub mod Heaps
 pub mod Calls
+pub mod Events
+pub mod EventsShow

@@ -8,11 +8,11 @@ use Rattle.osc_means.proofs.Blocks.{found-start}
 use Rattle.osc_means.proofs.Granting.{granted-mirrors}
 use Rattle.osc_means.proofs.Offers.{results-show}
 use Rattle.osc_means.proofs.Steps.{conditional-alike}
-use Rattle.osc_means.proofs.Calls as calls
+use Rattle.osc_means.proofs.EventsShow.{event-shows}
 use Rattle.osc_means.proofs.laws.plain_heap_agrees.Goals as goal
 
 pub returns-clause-events : goal.returns-clause-events
-returns-clause-events c = ?
+returns-clause-events c = event-shows
 
 pub returns-clause-runs : goal.returns-clause-runs
 returns-clause-runs c = ?
