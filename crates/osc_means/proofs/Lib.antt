@@ -14,3 +14,6 @@ pub mod Heaps
 pub mod Calls
 pub mod Events
 pub mod EventsShow
+pub mod Keeping
+pub mod Booting
+pub mod Runs
