@@ -29,7 +29,7 @@ room_is_room n = by (class_of (n + 16)) refl
     by (Some class) e = (position-Some (λ size. nat_le (n + 16) size) sizes class 0 e).0
     by None e = omega arith
 
--- a request has room with its header
+-- the bytes of a size have room with the header
 pub room_holds : (n : ℕ) → n + 16 ≤ block_bytes (room_of n)
 unfolding room_of
 room_holds n = by (class_of (n + 16)) refl

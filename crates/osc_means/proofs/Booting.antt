@@ -54,9 +54,9 @@ in-both : {X : Type 0} (xs ys : List X) (i : ℕ) (z : X) → slice_get (xs ++ y
 in-both [] ys i z e = inr (i, e)
 in-both (x ∷ xs) ys zero z e = inl (0, e)
 in-both (x ∷ xs) ys (suc i) z e = elim (in-both xs ys i z e) as (λ _. ((j : ℕ) × (slice_get (x ∷ xs) j ≡ Some z)) ⊎ ((j : ℕ) × (slice_get ys j ≡ Some z))) [
-    inl f ↦ inl (suc f.0, f.1)
+  | inl f ↦ inl (suc f.0, f.1)
   | inr f ↦ inr f
-  ]
+]
 
 in-map : {X Y : Type 0} (f : X → Y) (xs : List X) (i : ℕ) (y : Y) → slice_get (map f xs) i ≡ Some y → (x : X) × (slice_get xs i ≡ Some x × f x ≡ y)
 in-map f [] i y e = absurd (cc)
@@ -100,8 +100,8 @@ booted image n page e =
     let number : page.number ≡ n = (let f = found-passes (λ (p : Page). p.number == n) (memory_with image (pages image)).pages page e in grind (arith, nat_tests, f)) in
     let there = found-in (λ (p : Page). p.number == n) (memory_with image (pages image)).pages page e in
     elim (in-both (map (page_of_image image) (pages image)) (map zero_page (range_with_len first_stack_page stack_size)) there.0 page there.1)
-      as (λ _. ((page ≡ page_of_image image n) × (n < 1048576)) ⊎ ((page ≡ zero_page n) × (0x1000F0 ≤ n) × (n < 0x100100))) [
-        inl f ↦ (
+    as (λ _. ((page ≡ page_of_image image n) × (n < 1048576)) ⊎ ((page ≡ zero_page n) × (0x1000F0 ≤ n) × (n < 0x100100))) [
+      | inl f ↦ (
           let k = in-map (page_of_image image) (pages image) f.0 page f.1 in
           let is : k.0 ≡ n = ap (λ (p : Page). p.number) k.1.1 ∙ number in
           let low = page-below image f.0 k.0 k.1.0 in
@@ -111,7 +111,7 @@ booted image n page e =
           let is : k.0 ≡ n = ap (λ (p : Page). p.number) k.1.1 ∙ number in
           let r = range-at first_stack_page stack_size f.0 k.0 k.1.0 in
           inr (sym k.1.1 ∙ ap zero_page is, omega (arith, is, r), omega (arith, is, r)))
-      ]
+    ]
 
 page-shown : (image : Image) (frames : ℕ) (place : ℕ → ℕ) (n i : ℕ) (page : Page) (b : Byte) → Booted image n page → slice_get page.bytes i ≡ Some b → (flat_of image frames).bytes (4096 * n + i) ≡ shown_byte place b
 unfolding Booted
@@ -141,43 +141,43 @@ page-whole image n page (inr f) = ap (λ (p : Page). length p.bytes) f.0 ∙ rep
 
 boot-mirrors : (image : Image) (frames : ℕ) (place : ℕ → ℕ) → Mirrors frames place (memory_with image (pages image)) (flat_of image frames)
 boot-mirrors image frames place = record {
-    machine = refl;
-    pages = λ n i page b e f. page-shown image frames place n i page b (booted image n page e) f;
-    low = λ n page e. page-low image n page (booted image n page e);
-    whole = λ n page e. page-whole image n page (booted image n page e);
-    bytes = λ o i bs b e f. absurd (cc);
-    laid = record {
-      above = λ o x e. absurd (cc);
-      below = λ o x e. absurd (cc);
-      even = λ o x e. absurd (cc);
-      apart = λ o q a b e f n. absurd (cc);
-    };
-    held = λ o bs e. absurd (cc);
-    sizes = λ o bs e. absurd (cc);
-    placed = λ block e. absurd (cc);
-    given = refl;
-  }
+  machine = refl;
+  pages = λ n i page b e f. page-shown image frames place n i page b (booted image n page e) f;
+  low = λ n page e. page-low image n page (booted image n page e);
+  whole = λ n page e. page-whole image n page (booted image n page e);
+  bytes = λ o i bs b e f. absurd (cc);
+  laid = record {
+    above = λ o x e. absurd (cc);
+    below = λ o x e. absurd (cc);
+    even = λ o x e. absurd (cc);
+    apart = λ o q a b e f n. absurd (cc);
+  };
+  held = λ o bs e. absurd (cc);
+  sizes = λ o bs e. absurd (cc);
+  placed = λ block e. absurd (cc);
+  given = refl;
+}
 
 boot-mirrored : (image : Image) (frames : ℕ) (place : ℕ → ℕ) → Mirrored frames 0 place (record { memory = memory_with image (pages image); shared = []; parent = None; status = None }) (record { memory = flat_of image frames; shared = []; parent = None; status = None })
 boot-mirrored image frames place = record {
-    memory = boot-mirrors image frames place;
-    shared = refl;
-    parent = refl;
-    status = refl;
-    few = omega arith;
-    regions = λ i page e. absurd (cc);
-  }
+  memory = boot-mirrors image frames place;
+  shared = refl;
+  parent = refl;
+  status = refl;
+  few = omega arith;
+  regions = λ i page e. absurd (cc);
+}
 
 pub boot-shows : (image : Image) (config : Config) (place : ℕ → ℕ → ℕ) → Shows config.frames place (boot image config) (plain_boot image config)
 boot-shows image config place = record {
-    output = refl;
-    shared = refl;
-    wide = λ page bytes e. absurd (cc);
-    harts = ap (λ z. boot_hart (λ n. n) image.entry ∷ z) (sym (map-replicate (shown_hart place) (config.harts - 1) idle));
-    threads = refl;
-    count = refl;
-    processes = processes;
-  }
+  output = refl;
+  shared = refl;
+  wide = λ page bytes e. absurd (cc);
+  harts = ap (λ z. boot_hart (λ n. n) image.entry ∷ z) (sym (map-replicate (shown_hart place) (config.harts - 1) idle));
+  threads = refl;
+  count = refl;
+  processes = processes;
+}
   where
     processes : (pid : ℕ) (x : Process Memory) (y : Process Flat) → slice_get (boot image config).processes pid ≡ Some x → slice_get (plain_boot image config).processes pid ≡ Some y → Mirrored config.frames 0 (place pid) x y
     processes zero x y e f =

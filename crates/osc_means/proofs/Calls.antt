@@ -75,7 +75,7 @@ write-alike frames place turn plain y v asked pair = rw count (by (row_at turn (
 
     by : (r : Result (List Byte) ObjectWhy) → row_at turn (write_count turn.state asked) v ≡ r
         → ResultsAlike frames place turn plain y (only_deed (then_try r (λ bytes. then_try (ok_or (numbers_in bytes) PointerBytes) (λ ns. Ok (Writes ns)))))
-          (Only (Writes (plain_row (plain_turn place turn plain y) (write_count turn.state asked) (shown (place turn.pid) v))))
+        (Only (Writes (plain_row (plain_turn place turn plain y) (write_count turn.state asked) (shown (place turn.pid) v))))
     by (Err why) e = tt
     by (Ok bytes) e = numbers bytes e (numbers_in bytes) refl
 
@@ -153,7 +153,6 @@ shares-alike frames place turn plain y count pair = by (nat_lt 0 count) (nat_lt 
 
 -- ---- all calls
 
-
 -- a call whose argument has to be a number
 numbered : (frames : ℕ) (place : ℕ → ℕ → ℕ) (turn : WorldTurn) (plain : Plain) (y : Process Flat) (v : Value) (f : ℕ → WorldOffer) (g : ℕ → PlainOffer)
     → ((n : ℕ) → OffersAlike frames place turn plain y (f n) (g n)) → ResultsAlike frames place turn plain y (with_number v f) (g (shown (place turn.pid) v))
@@ -185,7 +184,7 @@ given-shares frames place turn plain y n pair = (shares-alike frames place turn 
 
 writes-alike : (frames : ℕ) (place : ℕ → ℕ → ℕ) (turn : WorldTurn) (plain : Plain) (y : Process Flat) (v asked : Value) → Paired frames place turn plain y
     → ResultsAlike frames place turn plain y (then_try (with_number asked (write_deed turn v)) only_deed)
-        (Only (Writes (plain_row (plain_turn place turn plain y) (write_count plain (shown (place turn.pid) asked)) (shown (place turn.pid) v))))
+    (Only (Writes (plain_row (plain_turn place turn plain y) (write_count plain (shown (place turn.pid) asked)) (shown (place turn.pid) v))))
 unfolding ResultsAlike
 writes-alike frames place turn plain y v (Num n) pair = write-alike frames place turn plain y v n pair
 writes-alike frames place turn plain y v (Ptr o k) pair = tt
@@ -193,16 +192,16 @@ writes-alike frames place turn plain y v (Ptr o k) pair = tt
 -- the call of a number, with its arguments in three registers
 serves-alike : (frames : ℕ) (place : ℕ → ℕ → ℕ) (turn : WorldTurn) (plain : Plain) (y : Process Flat) (n r s t : ℕ) → Paired frames place turn plain y
     → ResultsAlike frames place turn plain y (serves turn (call_numbered n r s t))
-        (plain_serves (plain_turn place turn plain y) (call_numbered n (shown (place turn.pid) (register_of turn r)) (shown (place turn.pid) (register_of turn s)) (shown (place turn.pid) (register_of turn t))))
+    (plain_serves (plain_turn place turn plain y) (call_numbered n (shown (place turn.pid) (register_of turn r)) (shown (place turn.pid) (register_of turn s)) (shown (place turn.pid) (register_of turn t))))
 unfolding serves plain_serves ResultsAlike
 serves-alike frames place turn plain y n r s t pair = by (n == 1) (n == 2) (n == 3) (n == 4) (n == 5) (n == 6) (n == 7) (n == 8) (n == 9) (n == 10) (n == 11)
   where
     by : (a b c d e g h i j k l : Bool)
         → ResultsAlike frames place turn plain y
-          (serves turn (cond a (Exit r) (cond b (Write r s) (cond c (Malloc r) (cond d (Free r) (cond e (Realloc r s) (cond g Fork (cond h (Spawn r s t) (cond i (Join r) (cond j (Done r) (cond k (Share r) (cond l (Wait r) (Unknown n)))))))))))))
-          (plain_serves (plain_turn place turn plain y)
-            (let u = shown (place turn.pid) (register_of turn r) in let v = shown (place turn.pid) (register_of turn s) in let w = shown (place turn.pid) (register_of turn t) in
-            cond a (Exit u) (cond b (Write u v) (cond c (Malloc u) (cond d (Free u) (cond e (Realloc u v) (cond g Fork (cond h (Spawn u v w) (cond i (Join u) (cond j (Done u) (cond k (Share u) (cond l (Wait u) (Unknown n)))))))))))))
+        (serves turn (cond a (Exit r) (cond b (Write r s) (cond c (Malloc r) (cond d (Free r) (cond e (Realloc r s) (cond g Fork (cond h (Spawn r s t) (cond i (Join r) (cond j (Done r) (cond k (Share r) (cond l (Wait r) (Unknown n)))))))))))))
+        (plain_serves (plain_turn place turn plain y)
+        (let u = shown (place turn.pid) (register_of turn r) in let v = shown (place turn.pid) (register_of turn s) in let w = shown (place turn.pid) (register_of turn t) in
+        cond a (Exit u) (cond b (Write u v) (cond c (Malloc u) (cond d (Free u) (cond e (Realloc u v) (cond g Fork (cond h (Spawn u v w) (cond i (Join u) (cond j (Done u) (cond k (Share u) (cond l (Wait u) (Unknown n)))))))))))))
     by true b c d e g h i j k l = numbered frames place turn plain y (register_of turn r) (λ m. Only (Exits m)) (λ m. Only (Exits m)) (exits-alike frames place turn plain y)
     by false true c d e g h i j k l = writes-alike frames place turn plain y (register_of turn r) (register_of turn s) pair
     by false false true d e g h i j k l = malloc-alike frames place turn plain y (register_of turn r) pair
@@ -228,7 +227,7 @@ pub calls-alike : (frames : ℕ) (place : ℕ → ℕ → ℕ) (turn : WorldTurn
 unfolding ResultsAlike call_of
 calls-alike frames place turn plain y pair =
     rw (register-shown (place turn.pid) turn.hart.regs 17, register-shown (place turn.pid) turn.hart.regs 10, register-shown (place turn.pid) turn.hart.regs 11, register-shown (place turn.pid) turn.hart.regs 12)
-      (by (register_of turn 17))
+    (by (register_of turn 17))
   where
     by : (v : Value) → ResultsAlike frames place turn plain y (then_try (with_number v (λ number. call_numbered number 10 11 12)) (serves turn))
         (plain_serves (plain_turn place turn plain y) (call_numbered (shown (place turn.pid) v) (shown (place turn.pid) (register_of turn 10)) (shown (place turn.pid) (register_of turn 11)) (shown (place turn.pid) (register_of turn 12))))

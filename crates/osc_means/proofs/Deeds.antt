@@ -72,11 +72,11 @@ steps-shows : (frames : ℕ) (place : ℕ → ℕ → ℕ) (turn : WorldTurn) (p
 unfolding state_after
 steps-shows frames place turn plain y step other pair a =
     rw (a.pc, a.reservation) (goes-shows frames place turn plain y (put_if world_kind turn step.put) (put_if plain_kind (plain_turn place turn plain y) other.put) (with_value turn.hart.regs step.rd step.value)
-      (with_value (map (shown (place turn.pid)) turn.hart.regs) other.rd other.value) step.pc step.reservation pair (by step.put other.put a.put) regs)
+    (with_value (map (shown (place turn.pid)) turn.hart.regs) other.rd other.value) step.pc step.reservation pair (by step.put other.put a.put) regs)
   where
     regs : with_value (map (shown (place turn.pid)) turn.hart.regs) other.rd other.value ≡ map (shown (place turn.pid)) (with_value turn.hart.regs step.rd step.value)
     regs = ap (λ z. with_value (map (shown (place turn.pid)) turn.hart.regs) z other.value) a.rd ∙ ap (with_value (map (shown (place turn.pid)) turn.hart.regs) step.rd) a.value
-      ∙ with_value-shown (shown (place turn.pid)) turn.hart.regs step.rd step.value
+        ∙ with_value-shown (shown (place turn.pid)) turn.hart.regs step.rd step.value
 
     by : (put : Option WorldPut) (other : Option (Put ℕ ℕ)) → PutsAlike (place turn.pid) turn put other → Shows frames place (put_if world_kind turn put) (put_if plain_kind (plain_turn place turn plain y) other)
     by None None a = pair.shows
@@ -89,8 +89,14 @@ steps-shows frames place turn plain y step other pair a =
 output-shows : (frames : ℕ) (place : ℕ → ℕ → ℕ) (world : World) (plain : Plain) (bytes : List ℕ) → Shows frames place world plain
     → Shows frames place (record world { output = world.output ++ bytes }) (record plain { output = plain.output ++ bytes })
 output-shows frames place world plain bytes s = record {
-    output = ap (λ z. z ++ bytes) s.output; shared = s.shared; wide = s.wide; harts = s.harts; threads = s.threads; count = s.count; processes = s.processes;
-  }
+  output = ap (λ z. z ++ bytes) s.output;
+  shared = s.shared;
+  wide = s.wide;
+  harts = s.harts;
+  threads = s.threads;
+  count = s.count;
+  processes = s.processes;
+}
 
 -- what stands in two lists, one after the other
 both-get : {X : Type 0} (xs ys : List X) (i : ℕ) (z : X) → slice_get (xs ++ ys) i ≡ Some z → (slice_get xs i ≡ Some z) ⊎ ((j : ℕ) × (slice_get ys j ≡ Some z))
@@ -120,28 +126,28 @@ shares-shows : (frames : ℕ) (place : ℕ → ℕ → ℕ) (turn : WorldTurn) (
     → first_shared_page + (length turn.process.shared + count) ≤ first_shadow_page
     → Shows frames place (with_shared (Number 0) turn count) (with_shared 0 (plain_turn place turn plain y) count)
 shares-shows frames place turn plain y count pair few = record {
-    output = base.output;
-    shared = ap (λ z. z ++ replicate count (replicate 4096 0)) pair.shows.shared
+  output = base.output;
+  shared = ap (λ z. z ++ replicate count (replicate 4096 0)) pair.shows.shared
       ∙ ap (λ z. map (map shared_byte) turn.state.shared ++ z) (sym (map-replicate (map shared_byte) count (replicate 4096 (Number 0)) ∙ ap (replicate count) (map-replicate shared_byte 4096 (Number 0))))
       ∙ sym (map-append (map shared_byte) turn.state.shared (replicate count (replicate 4096 (Number 0))));
-    wide = λ page bytes e. elim (both-get turn.state.shared (replicate count (replicate 4096 (Number 0))) page bytes e) as (λ _. length bytes ≡ 4096) [
-        inl f ↦ pair.shows.wide page bytes f
-      | inr f ↦ ap length (sym (replicate-get count f.0 (replicate 4096 (Number 0)) bytes f.1)) ∙ replicate-length 4096 (Number 0)
-      ];
-    harts = base.harts;
-    threads = base.threads;
-    count = length-set plain.processes turn.pid then ∙ base.count ∙ sym (length-set turn.state.processes turn.pid now);
-    processes = λ pid u v e f. elim (set-cases turn.state.processes turn.pid pid now u e) as (λ _. Mirrored frames more (place pid) u v) [
-        inl s ↦ elim (set-cases plain.processes turn.pid pid then v f) as (λ _. Mirrored frames more (place pid) u v) [
-            inl r ↦ rw (s.0, ← s.1, ← r.1) here
-          | inr r ↦ absurd (r.0 s.0)
-          ]
-      | inr s ↦ elim (set-cases plain.processes turn.pid pid then v f) as (λ _. Mirrored frames more (place pid) u v) [
-            inl r ↦ absurd (s.0 r.0)
-          | inr r ↦ more-mirrored frames (length turn.state.shared) more (place pid) u v (omega (arith, grown)) (pair.shows.processes pid u v s.1 r.1)
-          ]
-      ];
-  }
+  wide = λ page bytes e. elim (both-get turn.state.shared (replicate count (replicate 4096 (Number 0))) page bytes e) as (λ _. length bytes ≡ 4096) [
+    | inl f ↦ pair.shows.wide page bytes f
+    | inr f ↦ ap length (sym (replicate-get count f.0 (replicate 4096 (Number 0)) bytes f.1)) ∙ replicate-length 4096 (Number 0)
+  ];
+  harts = base.harts;
+  threads = base.threads;
+  count = length-set plain.processes turn.pid then ∙ base.count ∙ sym (length-set turn.state.processes turn.pid now);
+  processes = λ pid u v e f. elim (set-cases turn.state.processes turn.pid pid now u e) as (λ _. Mirrored frames more (place pid) u v) [
+    | inl s ↦ elim (set-cases plain.processes turn.pid pid then v f) as (λ _. Mirrored frames more (place pid) u v) [
+      | inl r ↦ rw (s.0, ← s.1, ← r.1) here
+      | inr r ↦ absurd (r.0 s.0)
+    ]
+    | inr s ↦ elim (set-cases plain.processes turn.pid pid then v f) as (λ _. Mirrored frames more (place pid) u v) [
+      | inl r ↦ absurd (s.0 r.0)
+      | inr r ↦ more-mirrored frames (length turn.state.shared) more (place pid) u v (omega (arith, grown)) (pair.shows.processes pid u v s.1 r.1)
+    ]
+  ];
+}
   where
     base : Shows frames place turn.state plain
     base = pair.shows
@@ -159,7 +165,7 @@ shares-shows frames place turn plain y count pair few = record {
     grown = length-append turn.state.shared (replicate count (replicate 4096 (Number 0))) ∙ ap (λ z. length turn.state.shared + z) (replicate-length count (replicate 4096 (Number 0)))
 
     here : Mirrored frames (length (turn.state.shared ++ replicate count (replicate 4096 (Number 0)))) (place turn.pid)
-      (record (turn.process) { shared = turn.process.shared ++ range_with_len (length turn.state.shared) count }) (record y { shared = y.shared ++ range_with_len (length plain.shared) count })
+        (record (turn.process) { shared = turn.process.shared ++ range_with_len (length turn.state.shared) count }) (record y { shared = y.shared ++ range_with_len (length plain.shared) count })
     here =
         let m = mirrored pair in
         let same : length plain.shared ≡ length turn.state.shared = ap length pair.shows.shared ∙ length-map turn.state.shared (map shared_byte) in
@@ -170,9 +176,9 @@ shares-shows frames place turn plain y count pair few = record {
           status = m.status;
           few = let l = length-append turn.process.shared (range_with_len (length turn.state.shared) count) in let r = range-length (length turn.state.shared) count in omega (arith, l, r, few);
           regions = λ i page e. elim (both-get turn.process.shared (range_with_len (length turn.state.shared) count) i page e) as (λ _. page < length (turn.state.shared ++ replicate count (replicate 4096 (Number 0)))) [
-              inl f ↦ (let b = m.regions i page f in omega (arith, b, grown))
+            | inl f ↦ (let b = m.regions i page f in omega (arith, b, grown))
             | inr f ↦ (let b = range-get (length turn.state.shared) count f.0 page f.1 in omega (arith, b, grown))
-            ];
+          ];
         }
 
 -- ---- threads
@@ -180,9 +186,14 @@ shares-shows frames place turn plain y count pair few = record {
 push-thread : (frames : ℕ) (place : ℕ → ℕ → ℕ) (world : World) (plain : Plain) (pid : ℕ) → Shows frames place world plain
     → Shows frames place (record world { threads = world.threads ++ record { spawner = pid; value = None } ∷ [] }) (record plain { threads = plain.threads ++ record { spawner = pid; value = None } ∷ [] })
 push-thread frames place world plain pid s = record {
-    output = s.output; shared = s.shared; wide = s.wide; harts = s.harts; count = s.count; processes = s.processes;
-    threads = ap (λ z. z ++ record { spawner = pid; value = None } ∷ []) s.threads ∙ sym (map-append (shown_thread place) world.threads (record { spawner = pid; value = None } ∷ []));
-  }
+  output = s.output;
+  shared = s.shared;
+  wide = s.wide;
+  harts = s.harts;
+  count = s.count;
+  processes = s.processes;
+  threads = ap (λ z. z ++ record { spawner = pid; value = None } ∷ []) s.threads ∙ sym (map-append (shown_thread place) world.threads (record { spawner = pid; value = None } ∷ []));
+}
 
 fresh-shown : (f : Value → ℕ) (sp arg : Value) → f (Num 0) ≡ 0 → slice_set (slice_set (replicate 32 0) 2 (f sp)) answer_register (f arg) ≡ map f (slice_set (slice_set (replicate 32 (Num 0)) 2 sp) answer_register arg)
 fresh-shown f sp arg e = rw e refl
@@ -196,9 +207,9 @@ unfolding state_after
 spawns-shows frames place turn plain y hart pc sp arg pair =
     let count = thread-count frames place turn.state plain pair.shows in
     begins-shows frames place _ _ hart (thread_hart Num turn pc sp arg) _
-      (answer-shows frames place turn plain y (with_thread turn) (with_thread (plain_turn place turn plain y)) (Num (length turn.state.threads + 1)) _ pair (push-thread frames place turn.state plain turn.pid pair.shows) (ap (λ n. n + 1) count))
-      (ap (λ z. record { process = Some turn.pid; thread = Some (z + 1); regs = slice_set (slice_set (replicate 32 0) 2 (shown (place turn.pid) sp)) answer_register (shown (place turn.pid) arg); pc = pc; reservation = None }) count
-      ∙ ap (λ z. record { process = Some turn.pid; thread = Some (length turn.state.threads + 1); regs = z; pc = pc; reservation = None }) (fresh-shown (shown (place turn.pid)) sp arg refl))
+    (answer-shows frames place turn plain y (with_thread turn) (with_thread (plain_turn place turn plain y)) (Num (length turn.state.threads + 1)) _ pair (push-thread frames place turn.state plain turn.pid pair.shows) (ap (λ n. n + 1) count))
+    (ap (λ z. record { process = Some turn.pid; thread = Some (z + 1); regs = slice_set (slice_set (replicate 32 0) 2 (shown (place turn.pid) sp)) answer_register (shown (place turn.pid) arg); pc = pc; reservation = None }) count
+    ∙ ap (λ z. record { process = Some turn.pid; thread = Some (length turn.state.threads + 1); regs = z; pc = pc; reservation = None }) (fresh-shown (shown (place turn.pid)) sp arg refl))
 
 -- ---- ends
 
@@ -218,9 +229,14 @@ exits-shows : (frames : ℕ) (place : ℕ → ℕ → ℕ) (turn : WorldTurn) (p
 exits-shows frames place turn plain y status pair =
     let m = mirrored pair in
     let s = process-shows frames place turn plain y (record (turn.process) { status = Some _ }) (record y { status = Some _ }) pair
-        (record { memory = m.memory; shared = m.shared; parent = m.parent; status = refl; few = m.few; regions = m.regions }) in
+    (record { memory = m.memory; shared = m.shared; parent = m.parent; status = refl; few = m.few; regions = m.regions }) in
     record {
-      output = s.output; shared = s.shared; wide = s.wide; threads = s.threads; count = s.count; processes = s.processes;
+      output = s.output;
+      shared = s.shared;
+      wide = s.wide;
+      threads = s.threads;
+      count = s.count;
+      processes = s.processes;
       harts = ap (map (stopped turn.pid)) pair.shows.harts ∙ all-stopped place turn.pid turn.state.harts;
     }
 
@@ -260,10 +276,14 @@ leaves-shows frames place turn plain y value pair =
     let any : list_any (runs turn.pid) (slice_set plain.harts turn.number idle) ≡ list_any (runs turn.pid) (slice_set turn.state.harts turn.number idle) = ap (list_any (runs turn.pid)) harts ∙ runs-shown place turn.pid (slice_set turn.state.harts turn.number idle) in
     let status : status_after turn.pid y.status (slice_set plain.harts turn.number idle) ≡ status_after turn.pid turn.process.status (slice_set turn.state.harts turn.number idle) = ap (λ z. cond z y.status (Some 0)) any ∙ ap (λ z. cond (list_any (runs turn.pid) (slice_set turn.state.harts turn.number idle)) z (Some 0)) m.status in
     let s = process-shows frames place turn plain y (record (turn.process) { status = status_after turn.pid turn.process.status (slice_set turn.state.harts turn.number idle) })
-        (record y { status = status_after turn.pid y.status (slice_set plain.harts turn.number idle) }) pair
-        (record { memory = m.memory; shared = m.shared; parent = m.parent; status = status; few = m.few; regions = m.regions }) in
+    (record y { status = status_after turn.pid y.status (slice_set plain.harts turn.number idle) }) pair
+    (record { memory = m.memory; shared = m.shared; parent = m.parent; status = status; few = m.few; regions = m.regions }) in
     record {
-      output = s.output; shared = s.shared; wide = s.wide; count = s.count; processes = s.processes;
+      output = s.output;
+      shared = s.shared;
+      wide = s.wide;
+      count = s.count;
+      processes = s.processes;
       harts = harts;
       threads = leaves-threads frames place turn plain y value pair;
     }
@@ -273,10 +293,14 @@ leaves-shows frames place turn plain y value pair =
 child-shows : (frames : ℕ) (place : ℕ → ℕ → ℕ) (turn : WorldTurn) (plain : Plain) (y : Process Flat) → Paired frames place turn plain y
     → Agree (length turn.process.memory.objects) (place turn.pid) (place (length turn.state.processes)) → Shows frames place (with_child turn) (with_child (plain_turn place turn plain y))
 child-shows frames place turn plain y pair agree = record {
-    output = pair.shows.output; shared = pair.shows.shared; wide = pair.shows.wide; harts = pair.shows.harts; threads = pair.shows.threads;
-    count = length-append plain.processes (other ∷ []) ∙ ap (λ n. n + 1) pair.shows.count ∙ sym (length-append turn.state.processes (child ∷ []));
-    processes = λ pid u v e f. by pid u v (pid == length turn.state.processes) refl e f;
-  }
+  output = pair.shows.output;
+  shared = pair.shows.shared;
+  wide = pair.shows.wide;
+  harts = pair.shows.harts;
+  threads = pair.shows.threads;
+  count = length-append plain.processes (other ∷ []) ∙ ap (λ n. n + 1) pair.shows.count ∙ sym (length-append turn.state.processes (child ∷ []));
+  processes = λ pid u v e f. by pid u v (pid == length turn.state.processes) refl e f;
+}
   where
     child : Process Memory
     child = record { memory = turn.process.memory; shared = turn.process.shared; parent = Some turn.pid; status = None }
@@ -285,12 +309,16 @@ child-shows frames place turn plain y pair agree = record {
     other = record { memory = y.memory; shared = y.shared; parent = Some turn.pid; status = None }
 
     new : Mirrored frames (length turn.state.shared) (place (length turn.state.processes)) (record { memory = turn.process.memory; shared = turn.process.shared; parent = Some turn.pid; status = None })
-      (record { memory = y.memory; shared = y.shared; parent = Some turn.pid; status = None })
+        (record { memory = y.memory; shared = y.shared; parent = Some turn.pid; status = None })
     new =
         let m = mirrored pair in
         record {
           memory = forked frames (place turn.pid) (place (length turn.state.processes)) turn.process.memory y.memory (own-memory turn pair.in_turn pair.knows) agree m.memory;
-          shared = m.shared; parent = refl; status = refl; few = m.few; regions = m.regions;
+          shared = m.shared;
+          parent = refl;
+          status = refl;
+          few = m.few;
+          regions = m.regions;
         }
 
     by : (pid : ℕ) (u : Process Memory) (v : Process Flat) (t : Bool) → (pid == length turn.state.processes) ≡ t
@@ -314,9 +342,9 @@ forks-shows : (frames : ℕ) (place : ℕ → ℕ → ℕ) (turn : WorldTurn) (p
 unfolding state_after
 forks-shows frames place turn plain y hart pair kept =
     begins-shows frames place _ _ hart (child_hart Num turn) _
-      (answer-shows frames place turn plain y (with_child turn) (with_child (plain_turn place turn plain y)) (Num (length turn.state.processes)) _ pair (child-shows frames place turn plain y pair agree) pair.shows.count)
-      (ap (λ z. record { process = Some z; thread = None; regs = with_value (map (shown (place turn.pid)) turn.hart.regs) answer_register 0; pc = next turn.hart.pc; reservation = None }) pair.shows.count
-      ∙ ap (λ z. record { process = Some (length turn.state.processes); thread = None; regs = z; pc = next turn.hart.pc; reservation = None }) regs)
+    (answer-shows frames place turn plain y (with_child turn) (with_child (plain_turn place turn plain y)) (Num (length turn.state.processes)) _ pair (child-shows frames place turn plain y pair agree) pair.shows.count)
+    (ap (λ z. record { process = Some z; thread = None; regs = with_value (map (shown (place turn.pid)) turn.hart.regs) answer_register 0; pc = next turn.hart.pc; reservation = None }) pair.shows.count
+    ∙ ap (λ z. record { process = Some (length turn.state.processes); thread = None; regs = z; pc = next turn.hart.pc; reservation = None }) regs)
   where
     m : Mirrored frames (length turn.state.shared) (place turn.pid) turn.process y
     m = mirrored pair
@@ -327,13 +355,13 @@ forks-shows frames place turn plain y hart pair kept =
         let user = stands y.memory.given o (omega (arith, count)) in
         let own = kept turn.pid o user.0 (ap (option_and_then (λ (p : Process Flat). slice_get p.memory.given o)) (append-get plain.processes (record { memory = y.memory; shared = y.shared; parent = Some turn.pid; status = None }) y turn.pid pair.there) ∙ user.1) in
         let last : slice_get (plain.processes ++ record { memory = y.memory; shared = y.shared; parent = Some turn.pid; status = None } ∷ []) (length turn.state.processes) ≡ Some (record { memory = y.memory; shared = y.shared; parent = Some turn.pid; status = None })
-            = ap (slice_get (plain.processes ++ record { memory = y.memory; shared = y.shared; parent = Some turn.pid; status = None } ∷ [])) (sym pair.shows.count) ∙ pushed-last plain.processes _ in
+        = ap (slice_get (plain.processes ++ record { memory = y.memory; shared = y.shared; parent = Some turn.pid; status = None } ∷ [])) (sym pair.shows.count) ∙ pushed-last plain.processes _ in
         let child = kept (length turn.state.processes) o user.0 (ap (option_and_then (λ (p : Process Flat). slice_get p.memory.given o)) last ∙ user.1) in
         own ∙ sym child
 
     regs : with_value (map (shown (place turn.pid)) turn.hart.regs) answer_register 0 ≡ map (shown (place (length turn.state.processes))) (with_value turn.hart.regs answer_register (Num 0))
     regs = ap (λ z. with_value z answer_register 0) (regs-agree (place turn.pid) (place (length turn.state.processes)) (length turn.process.memory.objects) turn.hart.regs agree (regs-known turn pair.in_turn pair.knows))
-      ∙ with_value-shown (shown (place (length turn.state.processes))) turn.hart.regs answer_register (Num 0)
+        ∙ with_value-shown (shown (place (length turn.state.processes))) turn.hart.regs answer_register (Num 0)
 
 -- ---- all deeds
 

@@ -69,7 +69,7 @@ offered-alike frames place turn plain y (instr.Upper Lui rd imm) pair =
 offered-alike frames place turn plain y (instr.Upper Auipc rd imm) pair =
     only-alike frames place turn plain y (Ok (sets turn rd (Num (wrapped (turn.hart.pc + extended 32 (imm * 4096)))))) _
     (λ step e. sets-alike place turn plain y rd (Some (Num (wrapped (turn.hart.pc + extended 32 (imm * 4096))))) (wrapped (turn.hart.pc + extended 32 (imm * 4096))) (instr.Upper Auipc rd imm) step
-      (λ r f. ap (shown (place turn.pid)) (sym (some-same (Num (wrapped (turn.hart.pc + extended 32 (imm * 4096)))) r f))) e)
+    (λ r f. ap (shown (place turn.pid)) (sym (some-same (Num (wrapped (turn.hart.pc + extended 32 (imm * 4096)))) r f))) e)
 offered-alike frames place turn plain y (instr.Jal rd half) pair =
     only-alike frames place turn plain y (jumps turn rd (wrapped (turn.hart.pc + extended 21 (half * 2)))) _ (λ step e. jump-alike place turn plain y rd (wrapped (turn.hart.pc + extended 21 (half * 2))) (instr.Jal rd half) step e)
 offered-alike frames place turn plain y (instr.Jalr rd rs1 imm) pair =
@@ -78,41 +78,41 @@ offered-alike frames place turn plain y (instr.Jalr rd rs1 imm) pair =
 offered-alike frames place turn plain y (instr.Branch kind rs1 rs2 half) pair =
     only-alike frames place turn plain y (branches turn (wrapped (turn.hart.pc + extended 13 (half * 2))) (is_taken_for (objects_of turn) kind (register_of turn rs1) (register_of turn rs2))) _
     (λ step e. rw (register-shown (place turn.pid) turn.hart.regs rs1, register-shown (place turn.pid) turn.hart.regs rs2)
-      (branch-alike place turn plain y (wrapped (turn.hart.pc + extended 13 (half * 2))) (is_taken_for (objects_of turn) kind (register_of turn rs1) (register_of turn rs2))
-        (is_taken kind (shown (place turn.pid) (register_of turn rs1)) (shown (place turn.pid) (register_of turn rs2))) (instr.Branch kind rs1 rs2 half) step
-        (λ s. taken-shown (place turn.pid) (objects_of turn) kind (register_of turn rs1) (register_of turn rs2) s (mirrored pair).memory.laid (register-known turn rs1 pair.in_turn pair.knows) (register-known turn rs2 pair.in_turn pair.knows)) e))
+    (branch-alike place turn plain y (wrapped (turn.hart.pc + extended 13 (half * 2))) (is_taken_for (objects_of turn) kind (register_of turn rs1) (register_of turn rs2))
+    (is_taken kind (shown (place turn.pid) (register_of turn rs1)) (shown (place turn.pid) (register_of turn rs2))) (instr.Branch kind rs1 rs2 half) step
+    (λ s. taken-shown (place turn.pid) (objects_of turn) kind (register_of turn rs1) (register_of turn rs2) s (mirrored pair).memory.laid (register-known turn rs1 pair.in_turn pair.knows) (register-known turn rs2 pair.in_turn pair.knows)) e))
 offered-alike frames place turn plain y (instr.Load kind rd rs1 imm) pair =
     only-alike frames place turn plain y (load_step turn kind rd (advanced (register_of turn rs1) (extended 12 imm))) _
     (λ step e. rw (offset-shown place turn rs1 (extended 12 imm)) (load-alike frames place turn plain y kind rd (advanced (register_of turn rs1) (extended 12 imm)) (instr.Load kind rd rs1 imm) step pair e))
 offered-alike frames place turn plain y (instr.Store kind rs1 rs2 imm) pair =
     only-alike frames place turn plain y (store_step turn (store_width kind) (advanced (register_of turn rs1) (extended 12 imm)) (register_of turn rs2)) _
     (λ step e. rw (offset-shown place turn rs1 (extended 12 imm), register-shown (place turn.pid) turn.hart.regs rs2)
-      (store-alike frames place turn plain y (store_width kind) (advanced (register_of turn rs1) (extended 12 imm)) (register_of turn rs2) (instr.Store kind rs1 rs2 imm) step pair (store-is kind) e))
+    (store-alike frames place turn plain y (store_width kind) (advanced (register_of turn rs1) (extended 12 imm)) (register_of turn rs2) (instr.Store kind rs1 rs2 imm) step pair (store-is kind) e))
 offered-alike frames place turn plain y (instr.Imm op rd rs1 imm) pair =
     only-alike frames place turn plain y (sets_if turn rd (operated_imm (objects_of turn) op (register_of turn rs1) (extended 12 imm))) _
     (λ step e. rw (register-shown (place turn.pid) turn.hart.regs rs1)
-      (sets-alike place turn plain y rd (operated_imm (objects_of turn) op (register_of turn rs1) (extended 12 imm)) (operate (op_of_imm op) (shown (place turn.pid) (register_of turn rs1)) (extended 12 imm)) (instr.Imm op rd rs1 imm) step
-        (λ r. operated_imm-shown (place turn.pid) (objects_of turn) op (register_of turn rs1) (extended 12 imm) r (mirrored pair).memory.laid (register-known turn rs1 pair.in_turn pair.knows)) e))
+    (sets-alike place turn plain y rd (operated_imm (objects_of turn) op (register_of turn rs1) (extended 12 imm)) (operate (op_of_imm op) (shown (place turn.pid) (register_of turn rs1)) (extended 12 imm)) (instr.Imm op rd rs1 imm) step
+    (λ r. operated_imm-shown (place turn.pid) (objects_of turn) op (register_of turn rs1) (extended 12 imm) r (mirrored pair).memory.laid (register-known turn rs1 pair.in_turn pair.knows)) e))
 offered-alike frames place turn plain y (instr.Shift op rd rs1 amount) pair =
     only-alike frames place turn plain y (sets_if turn rd (operated (objects_of turn) (op_of_shift op) (register_of turn rs1) (Num amount))) _
     (λ step e. rw (register-shown (place turn.pid) turn.hart.regs rs1)
-      (sets-alike place turn plain y rd (operated (objects_of turn) (op_of_shift op) (register_of turn rs1) (Num amount)) (operate (op_of_shift op) (shown (place turn.pid) (register_of turn rs1)) amount) (instr.Shift op rd rs1 amount) step
-        (λ r. operated-shown (place turn.pid) (objects_of turn) (op_of_shift op) (register_of turn rs1) (Num amount) r (mirrored pair).memory.laid refl) e))
+    (sets-alike place turn plain y rd (operated (objects_of turn) (op_of_shift op) (register_of turn rs1) (Num amount)) (operate (op_of_shift op) (shown (place turn.pid) (register_of turn rs1)) amount) (instr.Shift op rd rs1 amount) step
+    (λ r. operated-shown (place turn.pid) (objects_of turn) (op_of_shift op) (register_of turn rs1) (Num amount) r (mirrored pair).memory.laid refl) e))
 offered-alike frames place turn plain y (instr.ShiftW op rd rs1 amount) pair =
     only-alike frames place turn plain y (sets_if turn rd (operated (objects_of turn) (op_of_shift_w op) (register_of turn rs1) (Num amount))) _
     (λ step e. rw (register-shown (place turn.pid) turn.hart.regs rs1)
-      (sets-alike place turn plain y rd (operated (objects_of turn) (op_of_shift_w op) (register_of turn rs1) (Num amount)) (operate (op_of_shift_w op) (shown (place turn.pid) (register_of turn rs1)) amount) (instr.ShiftW op rd rs1 amount) step
-        (λ r. operated-shown (place turn.pid) (objects_of turn) (op_of_shift_w op) (register_of turn rs1) (Num amount) r (mirrored pair).memory.laid refl) e))
+    (sets-alike place turn plain y rd (operated (objects_of turn) (op_of_shift_w op) (register_of turn rs1) (Num amount)) (operate (op_of_shift_w op) (shown (place turn.pid) (register_of turn rs1)) amount) (instr.ShiftW op rd rs1 amount) step
+    (λ r. operated-shown (place turn.pid) (objects_of turn) (op_of_shift_w op) (register_of turn rs1) (Num amount) r (mirrored pair).memory.laid refl) e))
 offered-alike frames place turn plain y (instr.Op op rd rs1 rs2) pair =
     only-alike frames place turn plain y (sets_if turn rd (operated (objects_of turn) op (register_of turn rs1) (register_of turn rs2))) _
     (λ step e. rw (register-shown (place turn.pid) turn.hart.regs rs1, register-shown (place turn.pid) turn.hart.regs rs2)
-      (sets-alike place turn plain y rd (operated (objects_of turn) op (register_of turn rs1) (register_of turn rs2)) (operate op (shown (place turn.pid) (register_of turn rs1)) (shown (place turn.pid) (register_of turn rs2))) (instr.Op op rd rs1 rs2) step
-        (λ r. operated-shown (place turn.pid) (objects_of turn) op (register_of turn rs1) (register_of turn rs2) r (mirrored pair).memory.laid (register-known turn rs2 pair.in_turn pair.knows)) e))
+    (sets-alike place turn plain y rd (operated (objects_of turn) op (register_of turn rs1) (register_of turn rs2)) (operate op (shown (place turn.pid) (register_of turn rs1)) (shown (place turn.pid) (register_of turn rs2))) (instr.Op op rd rs1 rs2) step
+    (λ r. operated-shown (place turn.pid) (objects_of turn) op (register_of turn rs1) (register_of turn rs2) r (mirrored pair).memory.laid (register-known turn rs2 pair.in_turn pair.knows)) e))
 offered-alike frames place turn plain y (instr.Mul op rd rs1 rs2) pair =
     only-alike frames place turn plain y (sets_if turn rd (multiplied op (register_of turn rs1) (register_of turn rs2))) _
     (λ step e. rw (register-shown (place turn.pid) turn.hart.regs rs1, register-shown (place turn.pid) turn.hart.regs rs2)
-      (sets-alike place turn plain y rd (multiplied op (register_of turn rs1) (register_of turn rs2)) (muldiv op (shown (place turn.pid) (register_of turn rs1)) (shown (place turn.pid) (register_of turn rs2))) (instr.Mul op rd rs1 rs2) step
-        (λ r. multiplied-shown (place turn.pid) op (register_of turn rs1) (register_of turn rs2) r) e))
+    (sets-alike place turn plain y rd (multiplied op (register_of turn rs1) (register_of turn rs2)) (muldiv op (shown (place turn.pid) (register_of turn rs1)) (shown (place turn.pid) (register_of turn rs2))) (instr.Mul op rd rs1 rs2) step
+    (λ r. multiplied-shown (place turn.pid) op (register_of turn rs1) (register_of turn rs2) r) e))
 offered-alike frames place turn plain y (instr.Fence bits) pair =
     only-alike frames place turn plain y (Ok (passes turn)) _ (λ step e. let s : passes turn ≡ step = cc in pass-alike place turn plain y (instr.Fence bits) step s)
 offered-alike frames place turn plain y (instr.FenceI bits) pair =
@@ -122,10 +122,10 @@ offered-alike frames place turn plain y instr.Ebreak pair = tt
 offered-alike frames place turn plain y (instr.Amo op width rd rs1 rs2 aq rl) pair =
     only-alike frames place turn plain y (amo_step turn op width rd (register_of turn rs1) (register_of turn rs2)) _
     (λ step e. rw (register-shown (place turn.pid) turn.hart.regs rs1, register-shown (place turn.pid) turn.hart.regs rs2)
-      (amo-alike frames place turn plain y op width rd (register_of turn rs1) (register_of turn rs2) step pair e))
+    (amo-alike frames place turn plain y op width rd (register_of turn rs1) (register_of turn rs2) step pair e))
 offered-alike frames place turn plain y (instr.Lr width rd rs1 aq rl) pair =
     only-alike frames place turn plain y (reserve_step turn width rd (register_of turn rs1)) _
     (λ step e. rw (register-shown (place turn.pid) turn.hart.regs rs1) (reserve-alike frames place turn plain y width rd (register_of turn rs1) step pair e))
 offered-alike frames place turn plain y (instr.Sc width rd rs1 rs2 aq rl) pair =
     rw (register-shown (place turn.pid) turn.hart.regs rs1, register-shown (place turn.pid) turn.hart.regs rs2)
-      (conditional-alike frames place turn plain y width rd (register_of turn rs1) (register_of turn rs2) pair)
+    (conditional-alike frames place turn plain y width rd (register_of turn rs1) (register_of turn rs2) pair)

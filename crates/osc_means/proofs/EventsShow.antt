@@ -52,11 +52,11 @@ fetched frames place turn plain y i pair e =
 plain-turn : (frames : ℕ) (place : ℕ → ℕ → ℕ) (turn : WorldTurn) (plain : Plain) (y : Process Flat) → Paired frames place turn plain y → turn_of plain turn.number ≡ Some (plain_turn place turn plain y)
 plain-turn frames place turn plain y pair =
     let hart : slice_get plain.harts turn.number ≡ Some (shown_hart place turn.hart) =
-        ap (λ z. slice_get z turn.number) pair.shows.harts ∙ slice_get-map (shown_hart place) turn.state.harts turn.number ∙ ap (option_map (shown_hart place)) pair.in_turn.hart in
+    ap (λ z. slice_get z turn.number) pair.shows.harts ∙ slice_get-map (shown_hart place) turn.state.harts turn.number ∙ ap (option_map (shown_hart place)) pair.in_turn.hart in
     let runs = pair.in_turn.runs in
     let there = pair.there in
     let own : shown_hart place turn.hart ≡ (plain_turn place turn plain y).hart
-        = ap (λ p. record { process = turn.hart.process; thread = turn.hart.thread; regs = map (shown (place (unwrap_or p 0))) turn.hart.regs; pc = turn.hart.pc; reservation = None }) runs in
+    = ap (λ p. record { process = turn.hart.process; thread = turn.hart.thread; regs = map (shown (place (unwrap_or p 0))) turn.hart.regs; pc = turn.hart.pc; reservation = None }) runs in
     ap (option_and_then (turn_on plain turn.number)) (hart ∙ ap Some own)
     ∙ ap (option_and_then (turn_in plain turn.number (plain_turn place turn plain y).hart)) runs
     ∙ ap (option_map (λ process. record { state = plain; number = turn.number; hart = (plain_turn place turn plain y).hart; pid = turn.pid; process = process })) there
@@ -73,7 +73,7 @@ turn-shows frames place turn now plain then y c pair e f k = by (instr_at turn) 
         let same = fetched frames place turn plain y i pair g in
         let there = plain-turn frames place turn plain y pair in
         let does : plain_does (plain_turn place turn plain y) c (Some i) ≡ Some then
-            = ap (plain_does (plain_turn place turn plain y) c) (sym same) ∙ ap (plain_meaning_in plain c) (sym there) ∙ f in
+        = ap (plain_does (plain_turn place turn plain y) c) (sym same) ∙ ap (plain_meaning_in plain c) (sym there) ∙ f in
         results-show frames place turn plain y (offered turn i) (plain_offered (plain_turn place turn plain y) i) c now then pair (offered-alike frames place turn plain y i pair) h does k
 
 pub event-shows : (frames : ℕ) (place : ℕ → ℕ → ℕ) (world now : World) (plain then : Plain) (event : Event) → frames ≤ 4096 → Knows world → Shows frames place world plain
@@ -89,7 +89,7 @@ event-shows frames place world now plain then event limit knows s e f k = on_har
         let inside = slice_get_within world.processes pid process i in
         let y = stands plain.processes pid (let c = s.count in omega arith) in
         turn-shows frames place (record { state = world; number = event.hart; hart = hart; pid = pid; process = process }) now plain then y.0 event.choice
-          (record { shows = s; knows = knows; in_turn = record { process = i; hart = g; runs = h }; there = y.1; limit = limit }) j f k
+        (record { shows = s; knows = knows; in_turn = record { process = i; hart = g; runs = h }; there = y.1; limit = limit }) j f k
 
     on_pid : (hart : Hart Value) → slice_get world.harts event.hart ≡ Some hart → (pid : Option ℕ) → hart.process ≡ pid
         → meaning_in event.choice (option_and_then (turn_in world event.hart hart) pid) ≡ Goes now → Shows frames place now then

@@ -43,26 +43,26 @@ found-all p q (x ∷ pages) page a e = by (q x) e (found-all p q pages page (and
 
 pub forked : (frames : ℕ) (f g : ℕ → ℕ) (m : Memory) (z : Flat) → knows_memory m ≡ true → Agree (length m.objects) f g → Mirrors frames f m z → Mirrors frames g m z
 forked frames f g m z k a s = record {
-    machine = s.machine;
-    pages = λ n i page b e h.
+  machine = s.machine;
+  pages = λ n i page b e h.
       let all = found-all (knows_page (length m.objects)) (λ (p : Page). p.number == n) m.pages page pages e in
       s.pages n i page b e h ∙ byte-agrees f g (length m.objects) b a (all-at (is_known_byte (length m.objects)) page.bytes i b all h);
-    low = s.low;
-    whole = s.whole;
-    bytes = λ o i bs b e h.
+  low = s.low;
+  whole = s.whole;
+  bytes = λ o i bs b e h.
       let all = all-at (knows_object (length m.objects)) m.objects o (Live bs) objects e in
       ap (λ x. z.bytes (x + i)) (sym (at o (Live bs) e)) ∙ s.bytes o i bs b e h ∙ byte-agrees f g (length m.objects) b a (all-at (is_known_byte (length m.objects)) bs i b all h);
-    laid = record {
-      above = λ o x e. rw (← at o x e) (s.laid.above o x e);
-      below = λ o x e. rw (← at o x e) (s.laid.below o x e);
-      even = λ o x e. rw (← at o x e) (s.laid.even o x e);
-      apart = λ o q x y e h n. rw (← at o (Live x) e, ← at q (Live y) h) (s.laid.apart o q x y e h n);
-    };
-    held = λ o bs e. rw (← at o (Live bs) e) (s.held o bs e);
-    sizes = λ o bs e. rw (← at o (Live bs) e) (s.sizes o bs e);
-    placed = s.placed;
-    given = s.given;
-  }
+  laid = record {
+    above = λ o x e. rw (← at o x e) (s.laid.above o x e);
+    below = λ o x e. rw (← at o x e) (s.laid.below o x e);
+    even = λ o x e. rw (← at o x e) (s.laid.even o x e);
+    apart = λ o q x y e h n. rw (← at o (Live x) e, ← at q (Live y) h) (s.laid.apart o q x y e h n);
+  };
+  held = λ o bs e. rw (← at o (Live bs) e) (s.held o bs e);
+  sizes = λ o bs e. rw (← at o (Live bs) e) (s.sizes o bs e);
+  placed = s.placed;
+  given = s.given;
+}
   where
     at : (o : ℕ) (x : Object) → slice_get m.objects o ≡ Some x → f o ≡ g o
     at o x e = a o (slice_get_within m.objects o x e)

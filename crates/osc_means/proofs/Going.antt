@@ -48,23 +48,23 @@ changed-map f g h (x ∷ xs) (suc i) e = ap (λ z. f x ∷ z) (changed-map f g h
 pub process-shows : (frames : ℕ) (place : ℕ → ℕ → ℕ) (turn : WorldTurn) (plain : Plain) (y : Process Flat) (now : Process Memory) (then : Process Flat) → Paired frames place turn plain y
     → Mirrored frames (length turn.state.shared) (place turn.pid) now then → Shows frames place (with_process turn now) (with_process (plain_turn place turn plain y) then)
 process-shows frames place turn plain y now then pair m = record {
-    output = pair.shows.output;
-    shared = pair.shows.shared;
-    wide = pair.shows.wide;
-    harts = pair.shows.harts;
-    threads = pair.shows.threads;
-    count = length-set plain.processes turn.pid then ∙ pair.shows.count ∙ sym (length-set turn.state.processes turn.pid now);
-    processes = λ pid u v e f. elim (set-cases turn.state.processes turn.pid pid now u e) as (λ _. Mirrored frames (length turn.state.shared) (place pid) u v) [
-        inl s ↦ elim (set-cases plain.processes turn.pid pid then v f) as (λ _. Mirrored frames (length turn.state.shared) (place pid) u v) [
-            inl r ↦ rw (s.0, ← s.1, ← r.1) m
-          | inr r ↦ absurd (r.0 s.0)
-          ]
-      | inr s ↦ elim (set-cases plain.processes turn.pid pid then v f) as (λ _. Mirrored frames (length turn.state.shared) (place pid) u v) [
-            inl r ↦ absurd (s.0 r.0)
-          | inr r ↦ pair.shows.processes pid u v s.1 r.1
-          ]
-      ];
-  }
+  output = pair.shows.output;
+  shared = pair.shows.shared;
+  wide = pair.shows.wide;
+  harts = pair.shows.harts;
+  threads = pair.shows.threads;
+  count = length-set plain.processes turn.pid then ∙ pair.shows.count ∙ sym (length-set turn.state.processes turn.pid now);
+  processes = λ pid u v e f. elim (set-cases turn.state.processes turn.pid pid now u e) as (λ _. Mirrored frames (length turn.state.shared) (place pid) u v) [
+    | inl s ↦ elim (set-cases plain.processes turn.pid pid then v f) as (λ _. Mirrored frames (length turn.state.shared) (place pid) u v) [
+      | inl r ↦ rw (s.0, ← s.1, ← r.1) m
+      | inr r ↦ absurd (r.0 s.0)
+    ]
+    | inr s ↦ elim (set-cases plain.processes turn.pid pid then v f) as (λ _. Mirrored frames (length turn.state.shared) (place pid) u v) [
+      | inl r ↦ absurd (s.0 r.0)
+      | inr r ↦ pair.shows.processes pid u v s.1 r.1
+    ]
+  ];
+}
 
 pub memory-shows : (frames : ℕ) (place : ℕ → ℕ → ℕ) (turn : WorldTurn) (plain : Plain) (y : Process Flat) (now : Memory) (then : Flat) → Paired frames place turn plain y
     → Mirrors frames (place turn.pid) now then → Shows frames place (with_memory turn now) (with_memory (plain_turn place turn plain y) then)
@@ -78,14 +78,14 @@ memory-shows frames place turn plain y now then pair m =
 pub begins-shows : (frames : ℕ) (place : ℕ → ℕ → ℕ) (now : World) (then : Plain) (number : ℕ) (hart : Hart Value) (other : Hart ℕ) → Shows frames place now then → other ≡ shown_hart place hart
     → Shows frames place (begins_on number hart now) (begins_on number other then)
 begins-shows frames place now then number hart other s e = record {
-    output = s.output;
-    shared = s.shared;
-    wide = s.wide;
-    harts = ap (λ z. slice_set z number other) s.harts ∙ ap (slice_set (map (shown_hart place) now.harts) number) e ∙ sym (map-set (shown_hart place) now.harts number hart);
-    threads = s.threads;
-    count = s.count;
-    processes = s.processes;
-  }
+  output = s.output;
+  shared = s.shared;
+  wide = s.wide;
+  harts = ap (λ z. slice_set z number other) s.harts ∙ ap (slice_set (map (shown_hart place) now.harts) number) e ∙ sym (map-set (shown_hart place) now.harts number hart);
+  threads = s.threads;
+  count = s.count;
+  processes = s.processes;
+}
 
 pub goes-shows : (frames : ℕ) (place : ℕ → ℕ → ℕ) (turn : WorldTurn) (plain : Plain) (y : Process Flat) (now : World) (then : Plain) (regs : List Value) (others : List ℕ) (pc : ℕ) (reservation : Option Reservation)
     → Paired frames place turn plain y → Shows frames place now then → others ≡ map (shown (place turn.pid)) regs
@@ -120,37 +120,41 @@ pub record PutAlike (place : ℕ → ℕ) (turn : WorldTurn) (put : WorldPut) (o
 -- the harts of a world are disturbed
 disturbed-shows : (frames : ℕ) (place : ℕ → ℕ → ℕ) (now : World) (then : Plain) (pid : ℕ) (at : Place) → Shows frames place now then → Shows frames place (record now { harts = map (disturbed pid at) now.harts }) then
 disturbed-shows frames place now then pid at s = record {
-    output = s.output;
-    shared = s.shared;
-    wide = s.wide;
-    harts = s.harts ∙ sym (map-map (disturbed pid at) (shown_hart place) (shown_hart place) now.harts (disturbed-shown place pid at));
-    threads = s.threads;
-    count = s.count;
-    processes = s.processes;
-  }
+  output = s.output;
+  shared = s.shared;
+  wide = s.wide;
+  harts = s.harts ∙ sym (map-map (disturbed pid at) (shown_hart place) (shown_hart place) now.harts (disturbed-shown place pid at));
+  threads = s.threads;
+  count = s.count;
+  processes = s.processes;
+}
 
 -- what is known of other shared pages holds of as many
 pub more-mirrored : (frames count more : ℕ) (place : ℕ → ℕ) (x : Process Memory) (y : Process Flat) → count ≤ more → Mirrored frames count place x y → Mirrored frames more place x y
 more-mirrored frames count more place x y l m = record {
-    memory = m.memory; shared = m.shared; parent = m.parent; status = m.status; few = m.few;
-    regions = λ i page e. let b = m.regions i page e in omega arith;
-  }
+  memory = m.memory;
+  shared = m.shared;
+  parent = m.parent;
+  status = m.status;
+  few = m.few;
+  regions = λ i page e. let b = m.regions i page e in omega arith;
+}
 
 -- a shared page is stored in
 shared-shows : (frames : ℕ) (place : ℕ → ℕ → ℕ) (world : World) (plain : Plain) (f : ℕ → ℕ) (page k : ℕ) (others : List Byte) → Shows frames place world plain → list_all is_plain_byte others ≡ true
     → Shows frames place (record world { shared = changed_at (λ bytes. overlaid bytes k others) world.shared page })
-        (record plain { shared = changed_at (λ bytes. overlaid bytes k (map (shown_byte f) others)) plain.shared page })
+    (record plain { shared = changed_at (λ bytes. overlaid bytes k (map (shown_byte f) others)) plain.shared page })
 shared-shows frames place world plain f page k others s bare = record {
-    output = s.output;
-    shared = ap (λ z. changed_at (λ bytes. overlaid bytes k (map (shown_byte f) others)) z page) s.shared
+  output = s.output;
+  shared = ap (λ z. changed_at (λ bytes. overlaid bytes k (map (shown_byte f) others)) z page) s.shared
       ∙ changed-map (map shared_byte) (λ bytes. overlaid bytes k (map (shown_byte f) others)) (λ bytes. overlaid bytes k others) world.shared page
-        (λ bytes. ap (overlaid (map shared_byte bytes) k) numbers ∙ overlaid-map shared_byte bytes k others);
-    wide = λ n bytes e. wide n bytes (slice_get world.shared n) refl (n == page) (sym (slice_get-changed_at (λ bytes. overlaid bytes k others) world.shared page n) ∙ e);
-    harts = s.harts;
-    threads = s.threads;
-    count = s.count;
-    processes = λ pid x y e g. more-mirrored frames (length world.shared) _ (place pid) x y (let l = length-changed_at (λ bytes. overlaid bytes k others) world.shared page in omega arith) (s.processes pid x y e g);
-  }
+      (λ bytes. ap (overlaid (map shared_byte bytes) k) numbers ∙ overlaid-map shared_byte bytes k others);
+  wide = λ n bytes e. wide n bytes (slice_get world.shared n) refl (n == page) (sym (slice_get-changed_at (λ bytes. overlaid bytes k others) world.shared page n) ∙ e);
+  harts = s.harts;
+  threads = s.threads;
+  count = s.count;
+  processes = λ pid x y e g. more-mirrored frames (length world.shared) _ (place pid) x y (let l = length-changed_at (λ bytes. overlaid bytes k others) world.shared page in omega arith) (s.processes pid x y e g);
+}
   where
     same : (c : Byte) → is_plain_byte c ≡ true → shown_byte f c ≡ shared_byte c
     same (Number n) e = refl
@@ -177,7 +181,7 @@ put-shows frames place turn plain y put other pair alike = by put.at.area put.at
     by : (to : Area) (k : ℕ) → StandsAt (place turn.pid) turn.process to k other.at → k + length put.bytes ≤ length (area_bytes turn.state.shared turn.process.memory to)
         → (is_shared_area to ≡ true → list_all is_plain_byte put.bytes ≡ true)
         → Shows frames place (record (with_memory turn (memory_overlaid turn.process.memory to k put.bytes)) { shared = shared_overlaid turn.state.shared to k put.bytes; harts = map (disturbed turn.pid put.at) turn.state.harts })
-            (put_by (plain_turn place turn plain y) other.at other.bytes (shared_page_at y.shared other.at))
+        (put_by (plain_turn place turn plain y) other.at other.bytes (shared_page_at y.shared other.at))
     by (area.Object o) k s l bare =
         let above = (m.memory).laid.above o (Live s.1) s.2 in
         let start = s.0 in

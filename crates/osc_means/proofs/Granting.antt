@@ -39,9 +39,9 @@ live-other objects o q bs e = by (slice_get objects q) refl (q == o) refl (sym (
 
 killed-comes : (objects : List Object) (o : ℕ) → Comes objects (without_object objects o)
 killed-comes objects o = record {
-    some = λ q z e. some q z (slice_get objects q) refl (q == o) (sym (slice_get-changed_at killed objects o q) ∙ e);
-    live = λ q bs e. let l = live-other objects o q bs e in (bs, l.live, refl);
-  }
+  some = λ q z e. some q z (slice_get objects q) refl (q == o) (sym (slice_get-changed_at killed objects o q) ∙ e);
+  live = λ q bs e. let l = live-other objects o q bs e in (bs, l.live, refl);
+}
   where
     some : (q : ℕ) (z : Object) (found : Option Object) → slice_get objects q ≡ found → (t : Bool) → cond t (option_map killed (slice_get objects q)) (slice_get objects q) ≡ Some z
         → (x : Object) × (slice_get objects q ≡ Some x) × (object_size z ≡ object_size x)
@@ -63,17 +63,17 @@ pub killed-mirrors : (frames : ℕ) (place : ℕ → ℕ) (m : Memory) (z : Flat
     → ((q : ℕ) (bs : List Byte) → slice_get m.objects q ≡ Some (Live bs) → q ≢ o → is_held held (block_for (place q) (length bs)) ≡ true)
     → Mirrors frames place (record m { objects = without_object m.objects o }) (record z { held = held })
 killed-mirrors frames place m z o held s less stay = record {
-    machine = s.machine;
-    pages = s.pages;
-    low = s.low;
-    whole = s.whole;
-    bytes = λ q i bs b e f. let l = live-other m.objects o q bs e in s.bytes q i bs b l.live f;
-    laid = laid-comes place m.objects _ (killed-comes m.objects o) s.laid;
-    held = λ q bs e. let l = live-other m.objects o q bs e in stay q bs l.live l.other;
-    sizes = λ q bs e. let l = live-other m.objects o q bs e in s.sizes q bs l.live;
-    placed = λ b e. s.placed b (less b e);
-    given = s.given ∙ sym (length-changed_at killed m.objects o);
-  }
+  machine = s.machine;
+  pages = s.pages;
+  low = s.low;
+  whole = s.whole;
+  bytes = λ q i bs b e f. let l = live-other m.objects o q bs e in s.bytes q i bs b l.live f;
+  laid = laid-comes place m.objects _ (killed-comes m.objects o) s.laid;
+  held = λ q bs e. let l = live-other m.objects o q bs e in stay q bs l.live l.other;
+  sizes = λ q bs e. let l = live-other m.objects o q bs e in s.sizes q bs l.live;
+  placed = λ b e. s.placed b (less b e);
+  given = s.given ∙ sym (length-changed_at killed m.objects o);
+}
 
 -- ---- an object that is granted
 
@@ -91,24 +91,24 @@ pub granted-mirrors : (frames : ℕ) (place : ℕ → ℕ) (m : Memory) (z : Fla
     → length bytes ≡ size
     → Mirrors frames place (record m { objects = m.objects ++ Live bytes ∷ [] }) (with_given z held user size (map (shown_byte place) bytes))
 granted-mirrors frames place m z user size held bytes s g long = record {
-    machine = s.machine;
-    pages = λ n i page b e f.
+  machine = s.machine;
+  pages = λ n i page b e f.
       let low = s.low n page e in let whole = s.whole n page e in let in_page = slice_get_within page.bytes i b f in
       outside z.bytes user (map (shown_byte place) bytes) (4096 * n + i) (inl (omega (arith, above))) ∙ s.pages n i page b e f;
-    low = s.low;
-    whole = s.whole;
-    bytes = λ q i bs b e f. bytes_at q i bs b (q == length m.objects) refl e f;
-    laid = record {
-      above = λ q x e. above_at q x (q == length m.objects) refl e;
-      below = λ q x e. below_at q x (q == length m.objects) refl e;
-      even = λ q x e. even_at q x (q == length m.objects) refl e;
-      apart = λ o q a b e f n. apart_at o q a b n (o == length m.objects) (q == length m.objects) refl refl e f;
-    };
-    held = λ q bs e. held_at q bs (q == length m.objects) refl e;
-    sizes = λ q bs e. size_at q bs (q == length m.objects) refl e;
-    placed = g.placed;
-    given = length-append z.given (user ∷ []) ∙ ap (λ n. n + 1) s.given ∙ sym (length-append m.objects (Live bytes ∷ []));
-  }
+  low = s.low;
+  whole = s.whole;
+  bytes = λ q i bs b e f. bytes_at q i bs b (q == length m.objects) refl e f;
+  laid = record {
+    above = λ q x e. above_at q x (q == length m.objects) refl e;
+    below = λ q x e. below_at q x (q == length m.objects) refl e;
+    even = λ q x e. even_at q x (q == length m.objects) refl e;
+    apart = λ o q a b e f n. apart_at o q a b n (o == length m.objects) (q == length m.objects) refl refl e f;
+  };
+  held = λ q bs e. held_at q bs (q == length m.objects) refl e;
+  sizes = λ q bs e. size_at q bs (q == length m.objects) refl e;
+  placed = g.placed;
+  given = length-append z.given (user ∷ []) ∙ ap (λ n. n + 1) s.given ∙ sym (length-append m.objects (Live bytes ∷ []));
+}
   where
     count : ℕ
     count = length m.objects
@@ -142,9 +142,9 @@ granted-mirrors frames place m z user size held bytes s g long = record {
         let d = lie_apart frames (block_for (place o) (length bs)) (block_for user size) (s.placed (block_for (place o) (length bs)) (s.held o bs e)) g.block (g.other o bs e) in
         let x = room_holds (length bs) in let y = room_holds size in let a = s.laid.above o (Live bs) e in let u = above in
         elim d as (λ _. (place o + length bs + 16 ≤ user) ⊎ (user + size + 16 ≤ place o)) [
-            inl f ↦ inl (omega arith)
+          | inl f ↦ inl (omega arith)
           | inr f ↦ inr (omega arith)
-          ]
+        ]
 
     bytes_at : (q i : ℕ) (bs : List Byte) (b : Byte) (t : Bool) → (q == length m.objects) ≡ t → slice_get (m.objects ++ Live bytes ∷ []) q ≡ Some (Live bs) → slice_get bs i ≡ Some b
         → with_bytes z.bytes user (map (shown_byte place) bytes) (place q + i) ≡ shown_byte place b
@@ -163,9 +163,9 @@ granted-mirrors frames place m z user size held bytes s g long = record {
         let within = slice_get_within bs i b f in
         let long_row = length-map bytes (shown_byte place) in
         let away : (place q + i < user) ⊎ (user + length (map (shown_byte place) bytes) ≤ place q + i) = elim (clear q bs old) as (λ _. (place q + i < user) ⊎ (user + length (map (shown_byte place) bytes) ≤ place q + i)) [
-            inl d ↦ inl (omega arith)
+          | inl d ↦ inl (omega arith)
           | inr d ↦ inr (omega (arith, long_row, long))
-          ] in
+        ] in
         outside z.bytes user (map (shown_byte place) bytes) (place q + i) away ∙ s.bytes q i bs b old f
 
     above_at : (q : ℕ) (x : Object) (t : Bool) → (q == length m.objects) ≡ t → slice_get (m.objects ++ Live bytes ∷ []) q ≡ Some x → 0x2000000010 ≤ place q

@@ -75,23 +75,23 @@ makes-mirrors : (frames : ℕ) (place : ℕ → ℕ) (m : Memory) (z : Flat) (si
 makes-mirrors frames place m z size start limit s found here =
     let f = fresh frames z.held size start found in
     let grants : granting.Grants frames place m (start + 16) size (with_block (block_for (start + 16) size) z.held) = record {
-        limit = limit;
-        here = here;
-        block = f.block;
-        start = omega arith;
-        placed = λ b e. elim (blocks.with-held (block_for (start + 16) size) b z.held e) as (λ _. IsPlaced frames b) [
-            inl g ↦ subst (IsPlaced frames) (sym g) f.block
-          | inr g ↦ s.placed b g
-          ];
-        new = blocks.held-new (block_for (start + 16) size) z.held;
-        old = λ o bs e. blocks.held-with (block_for (start + 16) size) (block_for (place o) (length bs)) z.held (s.held o bs e);
-        other = λ o bs e. differs z.held (block_for (place o) (length bs)) (block_for (start + 16) size) (s.held o bs e) f.free;
-      } in
+      limit = limit;
+      here = here;
+      block = f.block;
+      start = omega arith;
+      placed = λ b e. elim (blocks.with-held (block_for (start + 16) size) b z.held e) as (λ _. IsPlaced frames b) [
+        | inl g ↦ subst (IsPlaced frames) (sym g) f.block
+        | inr g ↦ s.placed b g
+      ];
+      new = blocks.held-new (block_for (start + 16) size) z.held;
+      old = λ o bs e. blocks.held-with (block_for (start + 16) size) (block_for (place o) (length bs)) z.held (s.held o bs e);
+      other = λ o bs e. differs z.held (block_for (place o) (length bs)) (block_for (start + 16) size) (s.held o bs e) f.free;
+    } in
     let long : length (zeros size) ≡ size = zeros-long size in
     let zero_bytes : map (shown_byte place) (zeros size) ≡ replicate size 0 = map-replicate (shown_byte place) size (Number 0) in
     subst (λ b. Mirrors frames place (record m { objects = m.objects ++ Live (zeros size) ∷ [] }) (with_given z (with_block b z.held) (start + 16) size (replicate size 0))) (sym f.made)
-      (subst (λ b. Mirrors frames place (record m { objects = m.objects ++ Live (zeros size) ∷ [] }) (with_given z (with_block (block_for (start + 16) size) z.held) (start + 16) size b)) zero_bytes
-        (granting.granted-mirrors frames place m z (start + 16) size (with_block (block_for (start + 16) size) z.held) (zeros size) s grants long))
+    (subst (λ b. Mirrors frames place (record m { objects = m.objects ++ Live (zeros size) ∷ [] }) (with_given z (with_block (block_for (start + 16) size) z.held) (start + 16) size b)) zero_bytes
+    (granting.granted-mirrors frames place m z (start + 16) size (with_block (block_for (start + 16) size) z.held) (zeros size) s grants long))
 
 -- ---- malloc
 
@@ -113,11 +113,12 @@ makes-alike frames place turn plain y size pair None e = (tt, answers-alike fram
 makes-alike frames place turn plain y size pair (Some start) e =
     let s = (mirrored pair).memory in
     let found = slot-found frames (place turn.pid) turn.process.memory y.memory size start s e in
-    let low = found-below frames y.memory.held size start pair.limit found in
-    ((λ kept.
-      let here = next-place frames (place turn.pid) turn.process.memory y.memory (start + 16) s kept in
-      (makes-mirrors frames (place turn.pid) turn.process.memory y.memory size start pair.limit s found here, user-shown _ (start + 16) low here)),
-    answers-alike frames place turn plain y (Num 0) 0 refl)
+    let low = found-below frames y.memory.held size start pair.limit found in (
+      (λ kept.
+          let here = next-place frames (place turn.pid) turn.process.memory y.memory (start + 16) s kept in
+          (makes-mirrors frames (place turn.pid) turn.process.memory y.memory size start pair.limit s found here, user-shown _ (start + 16) low here)),
+      answers-alike frames place turn plain y (Num 0) 0 refl,
+    )
 
 pub malloc-alike : (frames : ℕ) (place : ℕ → ℕ → ℕ) (turn : WorldTurn) (plain : Plain) (y : Process Flat) (v : Value) → Paired frames place turn plain y
     → ResultsAlike frames place turn plain y (malloc_offer turn v) (plain_malloc (plain_turn place turn plain y) y.memory (shown (place turn.pid) v))
@@ -164,8 +165,8 @@ kills-mirrors : (frames : ℕ) (place : ℕ → ℕ) (m : Memory) (z : Flat) (o 
     → Mirrors frames place (record m { objects = without_object m.objects o }) (record z { held = without_block (block_for (place o) (length own.bytes)) z.held })
 kills-mirrors frames place m z o k s own =
     granting.killed-mirrors frames place m z o (without_block (block_for (place o) (length own.bytes)) z.held) s
-      (λ b e. blocks.without-held (block_for (place o) (length own.bytes)) b z.held e)
-      (λ q bs e n. blocks.held-without (block_for (place o) (length own.bytes)) (block_for (place q) (length bs)) z.held (granting.two-blocks place m.objects q o bs own.bytes s.laid e own.live n) (s.held q bs e))
+    (λ b e. blocks.without-held (block_for (place o) (length own.bytes)) b z.held e)
+    (λ q bs e n. blocks.held-without (block_for (place o) (length own.bytes)) (block_for (place q) (length bs)) z.held (granting.two-blocks place m.objects q o bs own.bytes s.laid e own.live n) (s.held q bs e))
 
 pub free-alike : (frames : ℕ) (place : ℕ → ℕ → ℕ) (turn : WorldTurn) (plain : Plain) (y : Process Flat) (v : Value) → Paired frames place turn plain y
     → ResultsAlike frames place turn plain y (only_deed (free_deed turn v)) (Only (plain_free (plain_turn place turn plain y) (block_of_user y.memory.held (shown (place turn.pid) v))))
@@ -265,7 +266,7 @@ stays-mirrors frames place m z o k size limit s own room here =
 moves-mirrors : (frames : ℕ) (place : ℕ → ℕ) (m : Memory) (z : Flat) (o k size start : ℕ) → frames ≤ 4096 → Mirrors frames place m z → (own : Owned frames place m z o k)
     → blocks.Found frames z.held (room_of size) start → place (length m.objects) ≡ start + 16
     → Mirrors frames place (record m { objects = without_object m.objects o ++ Live (resized own.bytes size) ∷ [] })
-        (with_given z (without_block (block_for (place o) (length own.bytes)) (held_with z start size)) (start + 16) size (map (shown_byte place) (resized own.bytes size)))
+    (with_given z (without_block (block_for (place o) (length own.bytes)) (held_with z start size)) (start + 16) size (map (shown_byte place) (resized own.bytes size)))
 moves-mirrors frames place m z o k size start limit s own found here =
     let f = fresh frames z.held size start found in
     let old = block_for (place o) (length own.bytes) in
@@ -274,7 +275,7 @@ moves-mirrors frames place m z o k size start limit s own found here =
     let apart = differs z.held (block_for (place o) (length own.bytes)) (block_for (start + 16) size) held f.free in
     let less = kills-mirrors frames place m z o k s own in
     subst (λ b. Mirrors frames place (record m { objects = without_object m.objects o ++ Live (resized own.bytes size) ∷ [] })
-        (with_given z (without_block (block_for (place o) (length own.bytes)) (with_block b z.held)) (start + 16) size (map (shown_byte place) (resized own.bytes size)))) (sym f.made)
+    (with_given z (without_block (block_for (place o) (length own.bytes)) (with_block b z.held)) (start + 16) size (map (shown_byte place) (resized own.bytes size)))) (sym f.made)
     (replaced frames place m z o (start + 16) size (without_block (block_for (place o) (length own.bytes)) z.held) (without_block (block_for (place o) (length own.bytes)) (with_block (block_for (start + 16) size) z.held)) (resized own.bytes size) less
     (record {
       limit = limit;
@@ -282,13 +283,13 @@ moves-mirrors frames place m z o k size start limit s own found here =
       block = f.block;
       start = omega arith;
       placed = λ b e. elim (blocks.with-held (block_for (start + 16) size) b z.held (blocks.without-held (block_for (place o) (length own.bytes)) b _ e)) as (λ _. IsPlaced frames b) [
-          inl g ↦ subst (IsPlaced frames) (sym g) f.block
+        | inl g ↦ subst (IsPlaced frames) (sym g) f.block
         | inr g ↦ s.placed b g
-        ];
+      ];
       new = blocks.held-without (block_for (place o) (length own.bytes)) (block_for (start + 16) size) _ (λ e. apart (sym e)) (blocks.held-new (block_for (start + 16) size) z.held);
       old = λ q bs e.
-        let l = granting.live-other m.objects o q bs e in
-        blocks.held-without (block_for (place o) (length own.bytes)) (block_for (place q) (length bs)) _ (granting.two-blocks place m.objects q o bs own.bytes s.laid l.live own.live l.other)
+          let l = granting.live-other m.objects o q bs e in
+          blocks.held-without (block_for (place o) (length own.bytes)) (block_for (place q) (length bs)) _ (granting.two-blocks place m.objects q o bs own.bytes s.laid l.live own.live l.other)
           (blocks.held-with (block_for (start + 16) size) (block_for (place q) (length bs)) z.held (s.held q bs l.live));
       other = λ q bs e. let l = granting.live-other m.objects o q bs e in differs z.held (block_for (place q) (length bs)) (block_for (start + 16) size) (s.held q bs l.live) f.free;
     })
@@ -318,26 +319,28 @@ replaces-alike frames place turn plain y o k size pair own =
         let found = slot-found frames (place turn.pid) turn.process.memory y.memory size start s e in
         let low = found-below frames y.memory.held size start pair.limit found in
         let live = own.live in
-        let row = resized-shown frames place turn plain y o size own.bytes pair own.live in
-        ((λ kept.
-          let here = next-place frames (place turn.pid) turn.process.memory y.memory (start + 16) s kept in
-          (rw (live, ← row) (moves-mirrors frames (place turn.pid) turn.process.memory y.memory o k size start pair.limit s own found here), user-shown _ (start + 16) low here)),
-        answers-alike frames place turn plain y (Num 0) 0 refl)
+        let row = resized-shown frames place turn plain y o size own.bytes pair own.live in (
+          (λ kept.
+              let here = next-place frames (place turn.pid) turn.process.memory y.memory (start + 16) s kept in
+              (rw (live, ← row) (moves-mirrors frames (place turn.pid) turn.process.memory y.memory o k size start pair.limit s own found here), user-shown _ (start + 16) low here)),
+          answers-alike frames place turn plain y (Num 0) 0 refl,
+        )
 
     by : (t : Bool) → is_room (room_of (length own.bytes)) (room_of size) ≡ t
         → OffersAlike frames place turn plain y (grants_object turn (Replaces o size))
-          (cond t (Grants (Goes (Heaps (Stays (place turn.pid o) size) (place turn.pid o))) (answers (plain_turn place turn plain y) 0))
-            (grants_block (plain_turn place turn plain y) (Moves (block_for (place turn.pid o) (length own.bytes)) (place turn.pid o) size) (next_start y.memory size)))
+        (cond t (Grants (Goes (Heaps (Stays (place turn.pid o) size) (place turn.pid o))) (answers (plain_turn place turn plain y) 0))
+        (grants_block (plain_turn place turn plain y) (Moves (block_for (place turn.pid o) (length own.bytes)) (place turn.pid o) size) (next_start y.memory size)))
     by false e = moves (next_start y.memory size) refl
     by true e =
         let room = same_room (room_of (length own.bytes)) (room_of size) e in
         let live = own.live in
         let below = s.laid.below o (Live own.bytes) own.live in
-        let row = resized-shown frames place turn plain y o size own.bytes pair own.live in
-        ((λ kept.
-          let here = next-place frames (place turn.pid) turn.process.memory y.memory (place turn.pid o) s kept in
-          (rw (live, ← row) (stays-mirrors frames (place turn.pid) turn.process.memory y.memory o k size pair.limit s own room here), user-shown _ (place turn.pid o) (omega arith) here)),
-        answers-alike frames place turn plain y (Num 0) 0 refl)
+        let row = resized-shown frames place turn plain y o size own.bytes pair own.live in (
+          (λ kept.
+              let here = next-place frames (place turn.pid) turn.process.memory y.memory (place turn.pid o) s kept in
+              (rw (live, ← row) (stays-mirrors frames (place turn.pid) turn.process.memory y.memory o k size pair.limit s own room here), user-shown _ (place turn.pid o) (omega arith) here)),
+          answers-alike frames place turn plain y (Num 0) 0 refl,
+        )
 
 pub realloc-alike : (frames : ℕ) (place : ℕ → ℕ → ℕ) (turn : WorldTurn) (plain : Plain) (y : Process Flat) (v size : Value) → Paired frames place turn plain y
     → ResultsAlike frames place turn plain y (realloc_offer turn v size) (plain_realloc (plain_turn place turn plain y) y.memory (shown (place turn.pid) v) (shown (place turn.pid) size))

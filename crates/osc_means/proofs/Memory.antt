@@ -74,17 +74,17 @@ pub record Comes (before after : List Object) : Type 0 where
 
 pub laid-comes : (place : ℕ → ℕ) (before after : List Object) → Comes before after → Laid place before → Laid place after
 laid-comes place before after c l = record {
-    above = λ o x e. let f = c.some o x e in l.above o f.0 f.1;
-    below = λ o x e. let f = c.some o x e in let g = l.below o f.0 f.1 in let s = f.2 in omega arith;
-    even = λ o x e. let f = c.some o x e in l.even o f.0 f.1;
-    apart = λ o q a b e f n. let g = c.live o a e in let h = c.live q b f in let d = l.apart o q g.0 h.0 g.1 h.1 n in let s = g.2 in let t = h.2 in grind (arith, d, s, t);
-  }
+  above = λ o x e. let f = c.some o x e in l.above o f.0 f.1;
+  below = λ o x e. let f = c.some o x e in let g = l.below o f.0 f.1 in let s = f.2 in omega arith;
+  even = λ o x e. let f = c.some o x e in l.even o f.0 f.1;
+  apart = λ o q a b e f n. let g = c.live o a e in let h = c.live q b f in let d = l.apart o q g.0 h.0 g.1 h.1 n in let s = g.2 in let t = h.2 in grind (arith, d, s, t);
+}
 
 overlaid-comes : (objects : List Object) (o k : ℕ) (others : List Byte) → Comes objects (changed_at (object_overlaid k others) objects o)
 overlaid-comes objects o k others = record {
-    some = λ q z e. some q z (slice_get objects q) refl (q == o) (sym (slice_get-changed_at (object_overlaid k others) objects o q) ∙ e);
-    live = λ q bs e. live q bs (slice_get objects q) refl (q == o) (sym (slice_get-changed_at (object_overlaid k others) objects o q) ∙ e);
-  }
+  some = λ q z e. some q z (slice_get objects q) refl (q == o) (sym (slice_get-changed_at (object_overlaid k others) objects o q) ∙ e);
+  live = λ q bs e. live q bs (slice_get objects q) refl (q == o) (sym (slice_get-changed_at (object_overlaid k others) objects o q) ∙ e);
+}
   where
     same_size : (x : Object) → object_size (object_overlaid k others x) ≡ object_size x
     same_size (Live bytes) = length-overlaid bytes k others
@@ -114,21 +114,21 @@ page-number pages n page e = let f = found-passes (λ (p : Page). p.number == n)
 pub stored-object : (frames : ℕ) (place : ℕ → ℕ) (m : Memory) (z : Flat) (o k : ℕ) (bytes others : List Byte) → Mirrors frames place m z
     → slice_get m.objects o ≡ Some (Live bytes) → k + length others ≤ length bytes
     → Mirrors frames place (record m { objects = changed_at (object_overlaid k others) m.objects o })
-        (record z { bytes = with_bytes z.bytes (place o + k) (map (shown_byte place) others) })
+    (record z { bytes = with_bytes z.bytes (place o + k) (map (shown_byte place) others) })
 stored-object frames place m z o k bytes others s e l = record {
-    machine = s.machine;
-    pages = λ n i page b f g.
+  machine = s.machine;
+  pages = λ n i page b f g.
       let low = s.low n page f in let whole = s.whole n page f in let in_page = slice_get_within page.bytes i b g in let above = s.laid.above o (Live bytes) e in
       outside z.bytes (place o + k) (map (shown_byte place) others) (4096 * n + i) (inl (omega arith)) ∙ s.pages n i page b f g;
-    low = s.low;
-    whole = s.whole;
-    bytes = λ q i bs b f g. at q i bs b (slice_get m.objects q) refl (q == o) refl (sym (slice_get-changed_at (object_overlaid k others) m.objects o q) ∙ f) g;
-    laid = laid-comes place m.objects _ comes s.laid;
-    held = λ q bs f. let c = comes.live q bs f in rw c.2 (s.held q c.0 c.1);
-    sizes = λ q bs f. let c = comes.live q bs f in s.sizes q c.0 c.1 ∙ sym c.2;
-    placed = s.placed;
-    given = s.given ∙ sym (length-changed_at (object_overlaid k others) m.objects o);
-  }
+  low = s.low;
+  whole = s.whole;
+  bytes = λ q i bs b f g. at q i bs b (slice_get m.objects q) refl (q == o) refl (sym (slice_get-changed_at (object_overlaid k others) m.objects o q) ∙ f) g;
+  laid = laid-comes place m.objects _ comes s.laid;
+  held = λ q bs f. let c = comes.live q bs f in rw c.2 (s.held q c.0 c.1);
+  sizes = λ q bs f. let c = comes.live q bs f in s.sizes q c.0 c.1 ∙ sym c.2;
+  placed = s.placed;
+  given = s.given ∙ sym (length-changed_at (object_overlaid k others) m.objects o);
+}
   where
     comes : Comes m.objects (changed_at (object_overlaid k others) m.objects o)
     comes = overlaid-comes m.objects o k others
@@ -155,9 +155,9 @@ stored-object frames place m z o k bytes others s e l = record {
         let in_object = slice_get_within bs i b h in
         let apart = s.laid.apart q o bs bytes there e other in
         let away : (place q + i < place o + k) ⊎ (place o + k + length (map (shown_byte place) others) ≤ place q + i) = elim apart as (λ _. (place q + i < place o + k) ⊎ (place o + k + length (map (shown_byte place) others) ≤ place q + i)) [
-            inl d ↦ inl (omega (arith, size))
+          | inl d ↦ inl (omega (arith, size))
           | inr d ↦ inr (omega (arith, size))
-          ] in
+        ] in
         outside z.bytes (place o + k) (map (shown_byte place) others) (place q + i) away ∙ s.bytes q i bs b there h
 
 find-map : {X : Type 0} (f : X → X) (p : X → Bool) (xs : List X) → ((x : X) → p (f x) ≡ p x) → find p (map f xs) ≡ option_map f (find p xs)
@@ -198,21 +198,21 @@ overlaid-size n k others page = by (page.number == n)
 pub stored-page : (frames : ℕ) (place : ℕ → ℕ) (m : Memory) (z : Flat) (n k : ℕ) (page : Page) (others : List Byte) → Mirrors frames place m z
     → memory_page m.pages n ≡ Some page → k + length others ≤ 4096
     → Mirrors frames place (record m { pages = map (page_overlaid n k others) m.pages })
-        (record z { bytes = with_bytes z.bytes (4096 * n + k) (map (shown_byte place) others) })
+    (record z { bytes = with_bytes z.bytes (4096 * n + k) (map (shown_byte place) others) })
 stored-page frames place m z n k page others s e l = record {
-    machine = s.machine;
-    pages = λ j i now b f g. let c = page-comes n k others m.pages j now f in at j i b c.0 c.1 (c.0.number == n) refl (subst (λ x. slice_get x.bytes i ≡ Some b) c.2 g);
-    low = λ j now f. let c = page-comes n k others m.pages j now f in s.low j c.0 c.1;
-    whole = λ j now f. let c = page-comes n k others m.pages j now f in ap (λ (x : Page). length x.bytes) c.2 ∙ overlaid-size n k others c.0 ∙ s.whole j c.0 c.1;
-    bytes = λ o i bs b f g.
+  machine = s.machine;
+  pages = λ j i now b f g. let c = page-comes n k others m.pages j now f in at j i b c.0 c.1 (c.0.number == n) refl (subst (λ x. slice_get x.bytes i ≡ Some b) c.2 g);
+  low = λ j now f. let c = page-comes n k others m.pages j now f in s.low j c.0 c.1;
+  whole = λ j now f. let c = page-comes n k others m.pages j now f in ap (λ (x : Page). length x.bytes) c.2 ∙ overlaid-size n k others c.0 ∙ s.whole j c.0 c.1;
+  bytes = λ o i bs b f g.
       let low = s.low n page e in let above = s.laid.above o (Live bs) f in
       outside z.bytes (4096 * n + k) (map (shown_byte place) others) (place o + i) (inr (omega (arith, size))) ∙ s.bytes o i bs b f g;
-    laid = s.laid;
-    held = s.held;
-    sizes = s.sizes;
-    placed = s.placed;
-    given = s.given;
-  }
+  laid = s.laid;
+  held = s.held;
+  sizes = s.sizes;
+  placed = s.placed;
+  given = s.given;
+}
   where
     size : length (map (shown_byte place) others) ≡ length others
     size = length-map others (shown_byte place)
@@ -227,7 +227,7 @@ stored-page frames place m z n k page others s e l = record {
         let whole = s.whole j old f in
         let fits : k + length others ≤ length old.bytes = omega arith in
         subst (λ x. with_bytes z.bytes (4096 * n + k) (map (shown_byte place) others) (4096 * x + i) ≡ shown_byte place b) (sym here)
-          (stored-byte z.bytes place old.bytes others (4096 * n) k i b fits g (λ c h. s.pages n i old c (ap (memory_page m.pages) (sym here) ∙ f) h))
+        (stored-byte z.bytes place old.bytes others (4096 * n) k i b fits g (λ c h. s.pages n i old c (ap (memory_page m.pages) (sym here) ∙ f) h))
     at j i b old f false t g =
         let number = page-number m.pages j old f in
         let other : old.number ≢ n = grind (arith, nat_tests, t) in

@@ -48,7 +48,7 @@ meant-shows frames place turn plain y (Goes deed) (Goes other) now then pair a e
     let x : state_after world_kind turn deed ≡ now = cc in
     let z : state_after plain_kind (plain_turn place turn plain y) other ≡ then = cc in
     subst (λ w. Shows frames place w then) x (subst (λ p. Shows frames place (state_after world_kind turn deed) p) z
-      (after-shows frames place turn plain y deed other pair a (subst (Kept place) (sym z) k)))
+    (after-shows frames place turn plain y deed other pair a (subst (Kept place) (sym z) k)))
 meant-shows frames place turn plain y (Goes deed) (Errs want) now then pair a e f k = absurd (cc)
 meant-shows frames place turn plain y (Goes deed) Unfit now then pair a e f k = absurd a
 meant-shows frames place turn plain y (Errs why) n now then pair a e f k = absurd (cc)

@@ -86,7 +86,7 @@ row-shown turn place bytes k (suc w) a l m e =
     let next = row-next turn w a (omega arith) in
     let split = drop-at bytes k here.0 here.1 in
     rw split (let s : map (shown_byte place) (take w (drop (k + 1) bytes)) ≡ plain_row turn w (wrapped (a + 1)) = rest ∙ sym next in
-        let f : shown_byte place here.0 ≡ plain_byte turn a = sym first in cc)
+    let f : shown_byte place here.0 ≡ plain_byte turn a = sym first in cc)
 
 pub length-row : (turn : PlainTurn) (w a : ℕ) → length (plain_row turn w a) ≡ w
 unfolding plain_row

@@ -37,7 +37,7 @@ run-shows frames place (event ∷ events) world n plain then limit knows s e f k
 
     by : (m : Meaning World ObjectWhy) (p : Option Plain) → meaning world event ≡ m → plain_meaning plain event ≡ p → (object_run (judged_as world n m) events).error ≡ None → plain_run p events ≡ Some then
         → ((now : World) (m : ℕ) (next : Plain) → Knows now → Shows frames place now next → (object_run (record { world = now; events = m; error = None }) events).error ≡ None
-          → plain_run (Some next) events ≡ Some then → Kept place then → Shows frames place (object_run (record { world = now; events = m; error = None }) events).world then)
+        → plain_run (Some next) events ≡ Some then → Kept place then → Shows frames place (object_run (record { world = now; events = m; error = None }) events).world then)
         → Shows frames place (object_run (judged_as world n m) events).world then
     by (Errs why) p g h e f later = absurd (erred why e)
     by Unfit p g h e f later = absurd (erred Trap e)

@@ -336,8 +336,8 @@ reserve-alike frames place turn plain y width rd address step pair e =
 
 pub conditional-alike : (frames : ℕ) (place : ℕ → ℕ → ℕ) (turn : WorldTurn) (plain : Plain) (y : Process Flat) (width : Width) (rd : ℕ) (address v : Value) → Paired frames place turn plain y
     → ResultsAlike frames place turn plain y (conditional turn width rd address v)
-        (cond (shown (place turn.pid) address % width_of width == 0)
-          (Conditional (Goes (Steps (putting (width_of width) (shown (place turn.pid) address) (shown (place turn.pid) v) (sets (plain_turn place turn plain y) rd sc_success)))) (Steps (sets (plain_turn place turn plain y) rd sc_failure))) Never)
+    (cond (shown (place turn.pid) address % width_of width == 0)
+    (Conditional (Goes (Steps (putting (width_of width) (shown (place turn.pid) address) (shown (place turn.pid) v) (sets (plain_turn place turn plain y) rd sc_success)))) (Steps (sets (plain_turn place turn plain y) rd sc_failure))) Never)
 unfolding ResultsAlike OffersAlike MeaningsAlike Alike
 conditional-alike frames place turn plain y width rd address v pair = by (aimed turn access.Store (width_of width) address (is_storable (width_of width) v)) refl
   where
@@ -349,18 +349,23 @@ conditional-alike frames place turn plain y width rd address v pair = by (aimed 
     success at reserved (Err why) e aim = tt
     success at false (Ok put) e aim = tt
     success at true (Ok put) e aim = record {
-        put = put-alike (place turn.pid) turn (width_of width) at (shown (place turn.pid) address) v _ put aim.reached (atomic-is width) aim.allowed e refl;
-        rd = refl; value = refl; pc = refl; reservation = refl;
-      }
+      put = put-alike (place turn.pid) turn (width_of width) at (shown (place turn.pid) address) v _ put aim.reached (atomic-is width) aim.allowed e refl;
+      rd = refl;
+      value = refl;
+      pc = refl;
+      reservation = refl;
+    }
 
     by : (r : Result Place ObjectWhy) → aimed turn access.Store (width_of width) address (is_storable (width_of width) v) ≡ r
         → ResultsAlike frames place turn plain y
-          (then_try r (λ at. Ok (Conditional (succeeds turn rd (holds_reservation turn.hart.reservation at width) (puts at (width_of width) v)) (Steps (conditional_step turn rd sc_failure)))))
-          (cond (shown (place turn.pid) address % width_of width == 0)
-            (Conditional (Goes (Steps (putting (width_of width) (shown (place turn.pid) address) (shown (place turn.pid) v) (sets (plain_turn place turn plain y) rd sc_success)))) (Steps (sets (plain_turn place turn plain y) rd sc_failure))) Never)
+        (then_try r (λ at. Ok (Conditional (succeeds turn rd (holds_reservation turn.hart.reservation at width) (puts at (width_of width) v)) (Steps (conditional_step turn rd sc_failure)))))
+        (cond (shown (place turn.pid) address % width_of width == 0)
+        (Conditional (Goes (Steps (putting (width_of width) (shown (place turn.pid) address) (shown (place turn.pid) v) (sets (plain_turn place turn plain y) rd sc_success)))) (Steps (sets (plain_turn place turn plain y) rd sc_failure))) Never)
     by (Err why) e = tt
     by (Ok at) e =
         let aim = aimed-reached frames place turn plain y access.Store (width_of width) address (is_storable (width_of width) v) at pair (atomic-is width) e in
         let even = aim.even in
-        rw even (success at (holds_reservation turn.hart.reservation at width) (puts at (width_of width) v) refl aim,
-          record { put = tt; rd = refl; value = refl; pc = refl; reservation = refl })
+        rw even (
+          success at (holds_reservation turn.hart.reservation at width) (puts at (width_of width) v) refl aim,
+          record { put = tt; rd = refl; value = refl; pc = refl; reservation = refl },
+        )
