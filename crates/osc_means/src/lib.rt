@@ -1,0 +1,5 @@
+//! What a program means on a heap without shadows: where its run over objects meets no error, the plain
+//! heap gives the same. It has no code.
+#![tactic(auto)]
+
+pub mod laws;
