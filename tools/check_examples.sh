@@ -97,5 +97,34 @@ for image in *.elf bugs/*.elf; do
     count "text of $image" "$(round_trip "$image")"
 done
 count "hello.txt" "$(text_of_hello 2>&1)"
+
+# answered STATUS LINE: prints how the text on standard input is answered otherwise in mode asm
+answered() {
+    local status
+    timeout 60 "$program" --mode asm > "$work/made" 2> "$work/err"
+    status=$?
+    [ "$status" -eq "$1" ] || echo "status $status, and not $1"
+    [ "$(cat "$work/err")" = "$2" ] || cat "$work/err"
+}
+
+# two_million_names: as many lines, each with a name of its own, in 16,000,000 bytes or fewer
+two_million_names() {
+    awk 'BEGIN { for (i = 0; i < 2000000; i++) printf "%c%x:\n", 97 + i % 26, int(i / 26) }'
+}
+
+# names_alone: prints how the file of a text of names alone differs from that of an empty text
+names_alone() {
+    "$program" --mode asm < /dev/null > "$work/empty" || return
+    two_million_names | answered 0 ""
+    cmp "$work/empty" "$work/made" 2>&1
+}
+
+count "16 MiB of one line" "$(head -c 16777216 /dev/zero | tr '\0' a | answered 72 "oscar: text: line 1 form")"
+count "one byte more" "$(head -c 16777217 /dev/zero | tr '\0' a | answered 72 "oscar: text: too long")"
+count "a NUL" "$(printf 'ecall\n\0\n' | answered 72 "oscar: text: line 2 form")"
+count "a carriage return" "$(printf 'ecall\r\n' | answered 72 "oscar: text: line 1 form")"
+count "a tab" "$(printf '\tecall\n' | answered 72 "oscar: text: line 1 form")"
+count "two million names" "$(names_alone)"
+count "a name again" "$({ two_million_names; echo a0:; } | answered 72 "oscar: text: line 2000001 bound")"
 echo "examples: $passed passed, $failed failed"
 [ "$failed" -eq 0 ]
