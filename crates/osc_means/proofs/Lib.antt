@@ -17,3 +17,4 @@ pub mod EventsShow
 pub mod Keeping
 pub mod Booting
 pub mod Runs
+pub mod GoesOn
